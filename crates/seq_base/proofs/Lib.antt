@@ -1,0 +1,5 @@
+pub mod Hexes
+pub mod HexLengths
+pub mod Parts
+pub mod Maps
+pub mod Shape

@@ -1,0 +1,44 @@
+-- Paths.
+use Rattle.std.specs.Prelude.{◌≡◌, ℕ, ◌+◌, ◌<◌, ◌≤◌, Bool, not, ◌&&◌, ◌||◌, ◌==◌, if◌then◌else◌, List, [], ◌∷◌, length, codes, map, Option, Some, None}
+use Rattle.std.specs.Char.{to_ascii_lowercase}
+use Rattle.std.specs.List.{list_all, slice_split}
+use Rattle.std.specs.Str.{bytes_eq, IsUtf8, IsValidUpTo}
+use Rattle.seq_base.specs.declared.path.PathFault.{PathFault}
+use Rattle.seq_base.specs.declared.path.PathFault.TheVariants.{Empty, TooLong, NotUtf8, BadPart, Memory}
+
+-- `.`, `..` and `.git` in any case lead elsewhere
+abbrev pub is_special : List ℕ → Bool
+is_special part = bytes_eq (codes ".") part || bytes_eq (codes "..") part || bytes_eq (codes ".git") (map to_ascii_lowercase part)
+
+abbrev pub is_part : List ℕ → Bool
+is_part part = not (length part == 0) && list_all (λ b. not (b == 0)) part && not (is_special part)
+
+abbrev pub parts : List ℕ → List (List ℕ)
+parts bytes = slice_split (λ b. b == 47) bytes
+
+-- where the first part begins that is none, the first of these beginning at a place
+abbrev pub first_bad : ℕ → List (List ℕ) → Option ℕ
+first_bad at [] = None
+first_bad at (p ∷ ps) = if is_part p then first_bad (at + length p + 1) ps else Some at
+
+pub record IsPath (bytes : List ℕ) : Type 0 where
+  pub some : 0 < length bytes
+  pub short : length bytes ≤ 4095
+  pub text : IsUtf8 bytes
+  pub parts_are : first_bad 0 (parts bytes) ≡ None
+
+-- the first of the faults, in this order; a check needs no memory
+abbrev pub IsPathFault : List ℕ → PathFault → Type 0
+IsPathFault bytes Empty = length bytes ≡ 0
+IsPathFault bytes (TooLong n) = (n ≡ length bytes) × (4095 < n)
+IsPathFault bytes (NotUtf8 at) = (0 < length bytes) × (length bytes ≤ 4095) × (IsUtf8 bytes → ⊥) × IsValidUpTo bytes at
+IsPathFault bytes (BadPart at) = (0 < length bytes) × (length bytes ≤ 4095) × IsUtf8 bytes × (first_bad 0 (parts bytes) ≡ Some at)
+IsPathFault bytes Memory = ⊥
+
+-- a path that is made may want memory
+abbrev pub IsPathFaultOrMemory : List ℕ → PathFault → Type 0
+IsPathFaultOrMemory bytes Empty = IsPathFault bytes Empty
+IsPathFaultOrMemory bytes (TooLong n) = IsPathFault bytes (TooLong n)
+IsPathFaultOrMemory bytes (NotUtf8 at) = IsPathFault bytes (NotUtf8 at)
+IsPathFaultOrMemory bytes (BadPart at) = IsPathFault bytes (BadPart at)
+IsPathFaultOrMemory bytes Memory = Unit {0}

@@ -1,0 +1,14 @@
+//! What every other crate speaks of: bytes, modes, ids, paths and maps from paths, and in `specs/` what a store holds.
+#![tactic(auto)]
+
+mod bytes;
+mod id;
+mod map;
+mod mode;
+mod path;
+
+pub use bytes::Bytes;
+pub use id::{Id, IdFault};
+pub use map::{Entry, InsertFault, PathMap};
+pub use mode::Mode;
+pub use path::{Path, PathFault};
