@@ -10,6 +10,7 @@ ghost use Rattle.std.specs.List.{list_all};
 ghost use Rattle.std.specs.Ordering.{nat_cmp, as_partial_cmp};
 ghost use Rattle.std.specs.Str.{bytes_eq};
 ghost use Rattle.seq_base.specs.Paths.{is_special, is_part, parts, first_bad, IsPath, IsPathFault, IsPathFaultOrMemory};
+ghost use Rattle.seq_base.specs.StorePaths.{IsStorePath};
 
 use std::alloc::Global;
 use std::cmp::Ordering;
@@ -132,9 +133,11 @@ impl Path {
         }
     }
 
+    #[tactic(auto, using(crate::proofs::StorePathLemmas::path_is_store_path))]
     pub fn bytes(&self) -> &[u8]
         ensures same { result.now ≡ self.now }
         ensures path { IsPath self.now }
+        ensures store_path { IsStorePath self.now }
     {
         self.held.as_slice()
     }
