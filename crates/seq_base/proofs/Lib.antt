@@ -12,3 +12,4 @@ pub mod Lookups
 pub mod Places
 pub mod Objects
 pub mod Repositories
+pub mod Rests

@@ -123,15 +123,15 @@ clear_no_place ps qs more clear place =
 -- a path that stands in place lies below no place of a file
 pub in_place_below : (kept path : List ℕ) → is_in_place path ≡ true → is_file_place (parts kept) ≡ true → is_below kept path ≡ false
 in_place_below kept path h place = false_from_ne_true (is_below kept path) (λ is.
-  let at = behind kept path is in
-  let split : parts path ≡ parts kept ++ parts at.0 = ap parts at.1 ∙ parts-behind kept at.0 in
-  let clear = in_place_parts path h in
-  let at_size : (n : ℕ) → length (parts kept) ≡ n → is_clear (parts path) n ≡ true → ⊥ = λ n size free.
+    let at = behind kept path is in
+    let split : parts path ≡ parts kept ++ parts at.0 = ap parts at.1 ∙ parts-behind kept at.0 in
+    let clear = in_place_parts path h in
+    let at_size : (n : ℕ) → length (parts kept) ≡ n → is_clear (parts path) n ≡ true → ⊥ = λ n size free.
     clear_no_place (parts kept) (parts at.0) (some_part at.0) (subst (λ (k : ℕ). is_clear (parts kept ++ parts at.0) k ≡ true) (sym size) (subst (λ (ps : List (List ℕ)). is_clear ps n ≡ true) split free)) place in
-  elim (place_size (parts kept) place) [
-    | inl two ↦ at_size 2 two clear.1
-    | inr others ↦ elim others [ inl three ↦ at_size 3 three clear.2 | inr four ↦ at_size 4 four clear.3 ]
-  ])
+    elim (place_size (parts kept) place) [
+      | inl two ↦ at_size 2 two clear.1
+      | inr others ↦ elim others [ inl three ↦ at_size 3 three clear.2 | inr four ↦ at_size 4 four clear.3 ]
+    ])
 
 -- a place of a file stands in place
 pub place_in_place : (path : List ℕ) → is_file_place (parts path) ≡ true → is_in_place path ≡ true
@@ -142,12 +142,12 @@ place_in_place path place = in_place_from path no_folder (clear 2 (omega arith))
 
     clear : (n : ℕ) → 0 < n → is_clear (parts path) n ≡ true
     clear n some = not_from_false _ (false_from_ne_true _ (λ is.
-      let both = and_parts (nat_lt n (length (parts path))) (is_file_place (take n (parts path))) is in
-      let within : n < length (parts path) = ltb-true n (length (parts path)) both.0 in
-      let whole = subst (λ (ps : List (List ℕ)). is_file_place ps ≡ true) (sym (take-append-drop n (parts path))) place in
-      both_ways (is_file_place (take n (parts path)))
-      (folder_no_file (take n (parts path)) (folder_of_place (take n (parts path)) (drop n (parts path)) (omega (arith, length-take n (parts path))) (omega (arith, length-drop n (parts path))) whole))
-      both.1))
+        let both = and_parts (nat_lt n (length (parts path))) (is_file_place (take n (parts path))) is in
+        let within : n < length (parts path) = ltb-true n (length (parts path)) both.0 in
+        let whole = subst (λ (ps : List (List ℕ)). is_file_place ps ≡ true) (sym (take-append-drop n (parts path))) place in
+        both_ways (is_file_place (take n (parts path)))
+        (folder_no_file (take n (parts path)) (folder_of_place (take n (parts path)) (drop n (parts path)) (omega (arith, length-take n (parts path))) (omega (arith, length-drop n (parts path))) whole))
+        both.1))
 
 -- what does not begin with `.git` is no place
 away : (ps : List (List ℕ)) (a : List ℕ) → bytes_eq a (codes ".git") ≡ false → (is_file_place (a ∷ ps) ≡ false) × (is_folder_place (a ∷ ps) ≡ false)

@@ -49,8 +49,8 @@ part_from part h =
     and_from (not (length part == 0) && has_no 0 part) (not (is_special part))
     (and_from (not (length part == 0)) (has_no 0 part) (full part h.some) (free-has_no 0 part h.no_nul))
     (not_from_false (is_special part) (or_from (bytes_eq (codes ".") part || bytes_eq (codes "..") part) (bytes_eq (codes ".git") (map to_ascii_lowercase part))
-      (or_from (bytes_eq (codes ".") part) (bytes_eq (codes "..") part) (not_equal (codes ".") part h.here) (not_equal (codes "..") part h.above))
-      (not_equal (codes ".git") (map to_ascii_lowercase part) h.git)))
+    (or_from (bytes_eq (codes ".") part) (bytes_eq (codes "..") part) (not_equal (codes ".") part h.here) (not_equal (codes "..") part h.above))
+    (not_equal (codes ".git") (map to_ascii_lowercase part) h.git)))
   where
     full : (p : List ℕ) → (p ≡ [] → ⊥) → not (length p == 0) ≡ true
     full [] ne = absurd (ne refl)

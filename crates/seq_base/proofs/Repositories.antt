@@ -24,12 +24,12 @@ none_passes test (k ∷ ks) h =
 pub kept_is_free : (w : World) (path : List ℕ) → IsRepository w → is_file_place (parts path) ≡ true → is_blocked w path ≡ false
 kept_is_free w path repository place =
     none_passes (λ file. is_below path file || is_below file path) (map.keys w) (λ file among.
-      let there : map.contains_key w file ≡ true = contains_key-keys w file ∙ among in
-      or_from (is_below path file) (is_below file path) (repository.files path file place there)
-      (false_from_ne_true (is_below file path) (λ is.
-        let at = behind file path is in
-        let whole : is_file_place (parts file ++ parts at.0) ≡ true = subst (λ (ps : List (List ℕ)). is_file_place ps ≡ true) (ap parts at.1 ∙ parts-behind file at.0) place in
-        both_ways (map.contains_key w file) (repository.folders file (folder_of_place (parts file) (parts at.0) (some_part file) (some_part at.0) whole)) there)))
+    let there : map.contains_key w file ≡ true = contains_key-keys w file ∙ among in
+    or_from (is_below path file) (is_below file path) (repository.files path file place there)
+    (false_from_ne_true (is_below file path) (λ is.
+    let at = behind file path is in
+    let whole : is_file_place (parts file ++ parts at.0) ≡ true = subst (λ (ps : List (List ℕ)). is_file_place ps ≡ true) (ap parts at.1 ∙ parts-behind file at.0) place in
+    both_ways (map.contains_key w file) (repository.folders file (folder_of_place (parts file) (parts at.0) (some_part file) (some_part at.0) whole)) there)))
 
 -- after a put that is not blocked, of a file that stands in place
 pub stays_repository : (w : World) (path bytes : List ℕ) → IsRepository w → is_blocked w path ≡ false → is_in_place path ≡ true → IsRepository (map.insert w path bytes)
@@ -59,3 +59,6 @@ removed_repository w path repository = record {
   files = λ kept file is there. repository.files kept file is (there_after_remove w path file there);
   folders = λ kept is. false_from_ne_true (map.contains_key (map.remove w path) kept) (λ there. both_ways (map.contains_key w kept) (repository.folders kept is) (there_after_remove w path kept there));
 }
+
+-- what a tactic needs to know of a repository after puts where files are kept, and after removals
+pub ruleset repository_steps = (kept_is_free, stays_repository_kept, removed_repository)

@@ -46,10 +46,10 @@ abbrev pub is_file_place : List (List ℕ) → Bool
 is_file_place (git ∷ name ∷ []) = bytes_eq git (codes ".git") && is_among git_files name
 is_file_place (git ∷ folder ∷ name ∷ []) =
     bytes_eq git (codes ".git") && (
-      (bytes_eq folder (codes "rebase-merge") && is_among rebase_files name)
-      || (bytes_eq folder (codes "sequencer") && is_among sequencer_files name)
-      || (bytes_eq folder (codes "merge-driver") && is_job_file name)
-      || (bytes_eq folder (codes "logs") && bytes_eq name (codes "HEAD"))
+    (bytes_eq folder (codes "rebase-merge") && is_among rebase_files name)
+    || (bytes_eq folder (codes "sequencer") && is_among sequencer_files name)
+    || (bytes_eq folder (codes "merge-driver") && is_job_file name)
+    || (bytes_eq folder (codes "logs") && bytes_eq name (codes "HEAD"))
     )
 is_file_place (git ∷ folder ∷ front ∷ back ∷ []) = bytes_eq git (codes ".git") && bytes_eq folder (codes "objects") && are_digits 2 front && are_digits 38 back
 is_file_place _ = false
