@@ -1,0 +1,3 @@
+pub mod BodyLemmas
+pub mod LineLemmas
+pub mod SubjectLemmas

@@ -1,0 +1,36 @@
+//! Lines of a text, and what stands at the end of one.
+
+ghost use Rattle.std.specs.Prelude.{◌≡◌};
+ghost use Rattle.message_text.specs.Lines.{lines, without_blanks, body};
+
+use bstr::{ByteSlice, Split};
+
+/// The parts between line feeds.
+#[tactic(auto, using(crate::proofs::LineLemmas::line_steps))]
+pub fn lines_of(text: &[u8]) -> Split<'_, 'static>
+    ensures { result ≡ lines text.now }
+{
+    text.split_str(b"\n")
+}
+
+/// A line without the blanks at its end.
+#[tactic(auto, using(crate::proofs::BodyLemmas::body_steps))]
+pub fn without_end_blanks(line: &[u8]) -> &[u8]
+    ensures { result.now ≡ without_blanks line.now }
+{
+    match line.rfind_not_byteset(b" \t") {
+        Some(last) => &line[..last + 1],
+        None => &line[..0],
+    }
+}
+
+/// A text without the line feeds at its end.
+#[tactic(auto, using(crate::proofs::BodyLemmas::body_steps))]
+pub fn body_of(text: &[u8]) -> &[u8]
+    ensures { result.now ≡ body text.now }
+{
+    match text.rfind_not_byteset(b"\n") {
+        Some(last) => &text[..last + 1],
+        None => &text[..0],
+    }
+}
