@@ -1,3 +1,4 @@
 pub mod BodyLemmas
+pub mod CleanLemmas
 pub mod LineLemmas
 pub mod SubjectLemmas

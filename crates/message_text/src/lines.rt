@@ -1,9 +1,10 @@
-//! Lines of a text, and what stands at the end of one.
+//! Lines of a text.
 
-ghost use Rattle.std.specs.Prelude.{◌≡◌};
+ghost use Rattle.std.specs.Prelude.{◌≡◌, ◌++◌, [], ◌∷◌, OnOk};
 ghost use Rattle.message_text.specs.Lines.{lines, without_blanks, body};
 
 use bstr::{ByteSlice, Split};
+use std::alloc::AllocError;
 
 /// The parts between line feeds.
 #[tactic(auto, using(crate::proofs::LineLemmas::line_steps))]
@@ -33,4 +34,13 @@ pub fn body_of(text: &[u8]) -> &[u8]
         Some(last) => &text[..last + 1],
         None => &text[..0],
     }
+}
+
+/// Writes a line and the line feed after it.
+pub fn push_line(text: &mut Vec<u8>, line: &[u8]) -> Result<(), AllocError>
+    ensures { OnOk result (text.new.items ≡ text.old.items ++ (line.now ++ 10 ∷ [])) }
+{
+    text.extend_from_slice(line)?;
+    text.push(b'\n')?;
+    Ok(())
 }
