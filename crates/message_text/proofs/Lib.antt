@@ -1,4 +1,5 @@
 pub mod BodyLemmas
 pub mod CleanLemmas
 pub mod LineLemmas
+pub mod ParagraphLemmas
 pub mod SubjectLemmas
