@@ -44,3 +44,17 @@ pub fn push_line(text: &mut Vec<u8>, line: &[u8]) -> Result<(), AllocError>
     text.push(b'\n')?;
     Ok(())
 }
+
+/// Writes a line of three pieces.
+pub fn push_line_of(
+    text: &mut Vec<u8>,
+    front: &[u8],
+    middle: &[u8],
+    end: &[u8],
+) -> Result<(), AllocError>
+    ensures { OnOk result (text.new.items ≡ text.old.items ++ ((front.now ++ middle.now ++ end.now) ++ 10 ∷ [])) }
+{
+    text.extend_from_slice(front)?;
+    text.extend_from_slice(middle)?;
+    push_line(text, end)
+}
