@@ -1,6 +1,8 @@
 pub mod BodyLemmas
 pub mod CleanLemmas
+pub mod KeptLemmas
 pub mod LineLemmas
+pub mod MarkLemmas
 pub mod ParagraphLemmas
 pub mod PickLemmas
 pub mod SubjectLemmas

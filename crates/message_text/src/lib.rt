@@ -2,12 +2,16 @@
 #![tactic(auto)]
 
 mod chain;
+mod chain_texts;
 mod cleaning;
+mod kept_texts;
 mod lines;
 mod picks;
+mod places;
 mod subjects;
 
 pub use chain::{ChainItem, ChainKind};
 pub use cleaning::clean;
+pub use kept_texts::kept_text;
 pub use picks::{picked_text, revert_text};
 pub use subjects::subject;
