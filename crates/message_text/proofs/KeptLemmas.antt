@@ -4,7 +4,8 @@ use Rattle.std.proofs.lemmas.Bool.{cases_Bool, cond-true, cond-false, ne_eqb}
 use Rattle.std.proofs.lemmas.List.Splits.{join_with_byte-slice_split}
 use Rattle.std.specs.List.{join_with_byte}
 use Rattle.message_text.specs.Lines.{lines, text_of, is_empty, has_some, from}
-use Rattle.message_text.specs.Paragraphs.{opening, remainder}
+use Rattle.message_text.specs.Paragraphs.{opening}
+use Rattle.message_text.specs.Chain.{without_first}
 use Rattle.message_text.proofs.MarkLemmas.{opening-empty, opening-first, from-empty, from-first, text_of-joined}
 
 -- what lines leave where the paragraph has begun, or not, is over, or not, and the rest is written, or not yet
@@ -61,11 +62,11 @@ joined-text_of (l ∷ ls) =
     let some : ¬ (length (text_of (l ∷ ls)) ≡ 0) = λ e. absurd (omega (arith, length-append (l ++ 10 ∷ []) (text_of ls), length-append l (10 ∷ []))) in
     sym (text_of-joined l ls) ∙ sym (cond-false _ _ _ (ne_eqb _ _ some))
 
-pub kept-from : (ls : List (List ℕ)) → cond (is_empty (kept_from false false false ls)) (10 ∷ []) (kept_from false false false ls)
-    ≡ join_with_byte 10 (opening ls ++ from has_some (remainder ls)) ++ 10 ∷ []
-unfolding left
-kept-from ls =
-    ap (λ t. cond (is_empty t) (10 ∷ []) t) (from_start ls) ∙ sym (joined-text_of (opening ls ++ from has_some (remainder ls)))
+pub kept-from : (text : List ℕ) → cond (is_empty (kept_from false false false (lines text))) (10 ∷ []) (kept_from false false false (lines text))
+    ≡ join_with_byte 10 (without_first (lines text)) ++ 10 ∷ []
+unfolding left without_first
+kept-from text =
+    ap (λ t. cond (is_empty t) (10 ∷ []) t) (from_start (lines text)) ∙ sym (joined-text_of (left (opening (lines text)) (from has_some (lines text))))
 
 pub joined-lines : (text : List ℕ) → join_with_byte 10 (lines text) ≡ text
 joined-lines text = join_with_byte-slice_split 10 text

@@ -1,4 +1,5 @@
 pub mod BodyLemmas
+pub mod ChainLemmas
 pub mod CleanLemmas
 pub mod KeptLemmas
 pub mod LineLemmas

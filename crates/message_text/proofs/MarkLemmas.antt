@@ -6,8 +6,8 @@ use Rattle.std.proofs.lemmas.List.Splits.{join_with_byte-slice_split, length-sli
 use Rattle.std.specs.Prelude.{map, not, filter, ◌&&◌}
 use Rattle.std.specs.List.{slice_split, join_with_byte}
 use Rattle.message_text.specs.Lines.{lines, text_of, is_line_feed, is_empty, has_some, up_to, from}
-use Rattle.message_text.specs.Paragraphs.{opening, first_paragraph, remainder}
-use Rattle.message_text.specs.Chain.{commented}
+use Rattle.message_text.specs.Paragraphs.{opening}
+use Rattle.message_text.specs.Chain.{commented, with_first_commented}
 
 -- what lines add where the paragraph has begun, or not, and has ended, or not
 abbrev pub marked_from : Bool → Bool → List (List ℕ) → List ℕ
@@ -73,9 +73,9 @@ from_start (l ∷ ls) =
     ∙ ap (λ ms. text_of (shown (opening (l ∷ ls)) ms)) (sym (from-first l ls fails)))
     (cases_Bool (is_empty l))
 
-pub marked-from : (ls : List (List ℕ)) → marked_from false false ls ≡ text_of (opening ls ++ map commented (first_paragraph ls) ++ remainder ls)
-unfolding shown
-marked-from ls = from_start ls
+pub marked-from : (text : List ℕ) → marked_from false false (lines text) ≡ text_of (with_first_commented (lines text))
+unfolding shown with_first_commented
+marked-from text = from_start (lines text)
 
 -- lines joined by line feeds, and the line feed at the end
 pub text_of-joined : (l : List ℕ) (ls : List (List ℕ)) → text_of (l ∷ ls) ≡ join_with_byte 10 (l ∷ ls) ++ 10 ∷ []

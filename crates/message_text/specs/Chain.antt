@@ -53,11 +53,19 @@ body_lines place = lines (body place.item.message)
 abbrev pub commented : List ℕ → List ℕ
 commented line = if is_empty line then codes "#" else codes "# " ++ line
 
+-- lines with those of their first paragraph as comments
+unfoldable pub with_first_commented : List (List ℕ) → List (List ℕ)
+with_first_commented ls = opening ls ++ map commented (first_paragraph ls) ++ remainder ls
+
+-- lines without their first paragraph and the empty lines behind that
+unfoldable pub without_first : List (List ℕ) → List (List ℕ)
+without_first ls = opening ls ++ from has_some (remainder ls)
+
 -- the lines of a message in the text: as comments where it is not kept, and its marked paragraph in any case
 unfoldable pub shown_lines : Place → List (List ℕ)
 shown_lines place =
     if not place.is_kept then map commented (body_lines place)
-    else if is_marked place then opening (body_lines place) ++ map commented (first_paragraph (body_lines place)) ++ remainder (body_lines place)
+    else if is_marked place then with_first_commented (body_lines place)
     else body_lines place
 
 unfoldable pub header : ℕ → Bool → List ℕ
@@ -84,7 +92,7 @@ chain_text items = text_of (count_line (length items) ∷ spaced (sections_from 
 
 -- the lines of a message without its marked paragraph and the empty lines behind that
 abbrev pub kept_lines : Place → List (List ℕ)
-kept_lines place = if is_marked place then opening (body_lines place) ++ from has_some (remainder (body_lines place)) else body_lines place
+kept_lines place = if is_marked place then without_first (body_lines place) else body_lines place
 
 -- what a chain keeps of the message of a place
 unfoldable pub kept_message : Place → List ℕ

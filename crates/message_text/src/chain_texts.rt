@@ -1,9 +1,8 @@
 //! The text that a squash chain is edited in.
 
-ghost use Rattle.std.specs.Prelude.{◌≡◌, ◌+◌, ◌^◌, ◌<◌, ◌++◌, ◌∷◌, [], map, codes, decimal, IfOk, OnOk};
-ghost use Rattle.message_text.specs.Chain.{IsChain, place_of, commented, header, count_line, section, shown_lines, chain_text};
+ghost use Rattle.std.specs.Prelude.{◌≡◌, ◌++◌, ◌∷◌, [], ◌==◌, if◌then◌else◌, map, decimal, IfOk, OnOk};
+ghost use Rattle.message_text.specs.Chain.{IsChain, place_of, commented, with_first_commented, header, count_line, section, shown_lines, chain_text};
 ghost use Rattle.message_text.specs.Lines.{lines, text_of};
-ghost use Rattle.message_text.specs.Paragraphs.{opening, first_paragraph, remainder};
 
 use crate::chain::{ChainItem, is_squash};
 use crate::lines::{body_of, lines_of, push_line, push_line_of};
@@ -43,7 +42,12 @@ fn push_header(text: &mut Vec<u8>, number: usize, is_kept: bool) -> Result<(), A
     } else if is_kept {
         push_number(text, b"# This is the commit message #", number, b":")
     } else {
-        push_number(text, b"# The commit message #", number, b" will be skipped:")
+        push_number(
+            text,
+            b"# The commit message #",
+            number,
+            b" will be skipped:",
+        )
     }
 }
 
@@ -71,8 +75,7 @@ fn push_comments(text: &mut Vec<u8>, message: &[u8]) -> Result<(), AllocError>
 /// Writes a message with its first paragraph as comments.
 #[tactic(auto, using(crate::proofs::MarkLemmas::mark_steps))]
 fn push_marked(text: &mut Vec<u8>, message: &[u8]) -> Result<(), AllocError>
-    ensures { OnOk result (text.new.items ≡ text.old.items
-        ++ text_of (opening (lines message.now) ++ map commented (first_paragraph (lines message.now)) ++ remainder (lines message.now))) }
+    ensures { OnOk result (text.new.items ≡ text.old.items ++ text_of (with_first_commented (lines message.now))) }
 {
     let mut has_begun = false;
     let mut has_ended = false;
@@ -111,7 +114,16 @@ fn push_shown(
     }
 }
 
-/// Writes the section of an item, behind an empty line unless it is the first.
+/// Writes the empty line before a section that is not the first.
+fn push_gap(text: &mut Vec<u8>, number: usize) -> Result<(), AllocError>
+    ensures { OnOk result (text.new.items ≡ text.old.items ++ (if number == 1 then [] else 10 ∷ [])) }
+{
+    if number != 1 {
+        text.push(b'\n')?;
+    }
+    Ok(())
+}
+
 fn push_section(
     alloc: Global,
     text: &mut Vec<u8>,
@@ -125,4 +137,28 @@ fn push_section(
     push_header(text, number, is_kept)?;
     push_line(text, b"")?;
     push_shown(alloc, text, is_squashed, is_kept, item)
+}
+
+/// The text that a squash chain is edited in (git-rebase(1)): its count, and behind a header for each item the message without the line
+/// feeds at its end. Where a message is not kept, its lines are comments, and where it is, those of a first paragraph that only says
+/// what the commit is for. Kept are, from the first squash on, all messages but those of fixups, and of those before it the last.
+#[tactic(auto, using(crate::proofs::ChainLemmas::chain_steps))]
+pub fn chain_text(alloc: Global, items: &[ChainItem]) -> Result<Vec<u8>, AllocError>
+    requires { IsChain items.now }
+    ensures { IfOk result (λ text. text.items ≡ chain_text items.now) }
+{
+    let mut text = Vec::new(alloc);
+    push_count(&mut text, items.len())?;
+    let mut number = 0;
+    let mut is_squashed = false;
+    let mut rest = items;
+    while let [item, after @ ..] = rest {
+        number += 1;
+        is_squashed = is_squashed || is_squash(item.kind);
+        let is_kept = is_kept(is_squashed, item, after);
+        push_gap(&mut text, number)?;
+        push_section(alloc, &mut text, number, is_squashed, is_kept, item)?;
+        rest = after;
+    }
+    Ok(text)
 }

@@ -2,9 +2,8 @@
 
 ghost use Rattle.std.specs.Prelude.{◌≡◌, ◌++◌, ◌∷◌, [], true, IfOk};
 ghost use Rattle.std.specs.List.{join_with_byte};
-ghost use Rattle.message_text.specs.Chain.{IsChain, place_of, kept_message, kept_text};
-ghost use Rattle.message_text.specs.Lines.{lines, from, has_some};
-ghost use Rattle.message_text.specs.Paragraphs.{opening, remainder};
+ghost use Rattle.message_text.specs.Chain.{IsChain, place_of, without_first, kept_message, kept_text};
+ghost use Rattle.message_text.specs.Lines.{lines};
 
 use crate::chain::{ChainItem, is_first, is_squash};
 use crate::lines::{body_of, lines_of, push_line};
@@ -14,7 +13,7 @@ use std::alloc::{AllocError, Global};
 /// A message without its first paragraph and the empty lines behind that.
 #[tactic(auto, using(crate::proofs::KeptLemmas::kept_steps))]
 fn without_first_paragraph(alloc: Global, message: &[u8]) -> Result<Vec<u8>, AllocError>
-    ensures { IfOk result (λ text. text.items ≡ join_with_byte 10 (opening (lines message.now) ++ from has_some (remainder (lines message.now))) ++ 10 ∷ []) }
+    ensures { IfOk result (λ text. text.items ≡ join_with_byte 10 (without_first (lines message.now)) ++ 10 ∷ []) }
 {
     let mut text = Vec::new(alloc);
     let mut has_begun = false;
@@ -43,11 +42,7 @@ fn without_first_paragraph(alloc: Global, message: &[u8]) -> Result<Vec<u8>, All
 }
 
 #[tactic(auto, unfolding(crate::specs::Chain::kept_message), using(crate::proofs::KeptLemmas::joined_steps))]
-fn kept_message(
-    alloc: Global,
-    is_squashed: bool,
-    item: &ChainItem,
-) -> Result<Vec<u8>, AllocError>
+fn kept_message(alloc: Global, is_squashed: bool, item: &ChainItem) -> Result<Vec<u8>, AllocError>
     ensures { IfOk result (λ text. text.items ≡ kept_message (place_of is_squashed true item.now)) }
 {
     let message = item.message.as_slice();

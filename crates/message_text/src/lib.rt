@@ -9,8 +9,11 @@ mod lines;
 mod picks;
 mod places;
 mod subjects;
+#[cfg(test)]
+mod tests;
 
 pub use chain::{ChainItem, ChainKind};
+pub use chain_texts::chain_text;
 pub use cleaning::clean;
 pub use kept_texts::kept_text;
 pub use picks::{picked_text, revert_text};
