@@ -1,10 +1,10 @@
 -- The last byte that does not pass is where a text without its end ends.
-use Rattle.std.proofs.Common.{◌≡◌, ℕ, zero, suc, ◌+◌, ◌-◌, ◌<◌, ◌≤◌, Bool, true, false, List, [], ◌∷◌, ◌++◌, length, get_or, take, drop, refl, sym, ap, subst, ◌∙◌, arith, ⊎_elim, add-one}
-use Rattle.std.specs.Prelude.{Option, Some, None, not, ◌||◌, ◌==◌}
+use Rattle.std.proofs.Common.{◌≡◌, ℕ, zero, suc, ◌+◌, ◌-◌, ◌<◌, Bool, true, false, List, [], ◌∷◌, length, get_or, take, refl, sym, ap, ◌∙◌, arith, add-one}
+use Rattle.std.specs.Prelude.{Some, None, not, ◌||◌, ◌==◌}
 use Rattle.std.specs.List.{list_all}
 use Rattle.std.proofs.lemmas.Bool.{cond-true, cond-false, and_from}
 use Rattle.std.proofs.lemmas.List.Folds.{list_all_at}
-use Rattle.memchr.specs.Find.{IsLastByte, Nowhere, Passes}
+use Rattle.memchr.specs.Find.{IsLastByte}
 use Rattle.bstr.specs.Bytes.{is_in, not_in}
 use Rattle.message_text.specs.Lines.{without_end, without_blanks, body, is_blank, is_line_feed}
 

@@ -1,10 +1,8 @@
 -- A cleaned text, line by line.
-use Rattle.std.proofs.Common.{◌≡◌, ℕ, ◌+◌, Bool, true, false, cond, List, [], ◌∷◌, ◌++◌, length, refl, sym, ap, ◌∙◌, ⊎_elim, ◌⊎◌}
+use Rattle.std.proofs.Common.{◌≡◌, ℕ, ◌+◌, Bool, true, false, cond, List, [], ◌∷◌, ◌++◌, refl, sym, ap, ◌∙◌, ⊎_elim, ◌⊎◌}
 use Rattle.std.proofs.lemmas.Bool.{cases_Bool, cond-true, cond-false}
-use Rattle.std.specs.Prelude.{map, not, filter, ◌&&◌}
-use Rattle.std.specs.List.{slice_split}
-use Rattle.message_text.specs.Lines.{lines, text_of, is_empty, has_some, without_blanks}
-use Rattle.message_text.specs.Paragraphs.{paragraphs, spaced}
+use Rattle.std.specs.Prelude.{map, not, ◌&&◌}
+use Rattle.message_text.specs.Lines.{lines, is_empty, without_blanks}
 use Rattle.message_text.proofs.ParagraphLemmas.{spaced_from, spaces}
 use Rattle.message_text.specs.Cleaned.{is_comment, own_lines, cleaned}
 

@@ -1,5 +1,5 @@
 -- A chain of fixups alone keeps its first message.
-use Rattle.std.proofs.Common.{◌≡◌, ℕ, Bool, true, false, cond, List, [], ◌∷◌, ◌++◌, refl, sym, ap, subst, ◌∙◌}
+use Rattle.std.proofs.Common.{◌≡◌, Bool, true, false, List, [], ◌∷◌, refl, ap, ◌∙◌}
 use Rattle.std.proofs.lemmas.Bool.{cond-true, cond-false, and_from}
 use Rattle.std.proofs.lemmas.List.Elements.{recursion_from_All}
 use Rattle.std.specs.Prelude.{map, not, filter, ◌&&◌, ◌||◌, All}
@@ -9,7 +9,7 @@ use Rattle.message_text.specs.declared.chain.ChainKind.{ChainKind}
 use Rattle.message_text.specs.declared.chain.ChainKind.TheVariants.{First, Squash, Fixup, Keep, KeepEdit}
 use Rattle.message_text.specs.Kinds.{is_first, is_squash, is_fixup}
 use Rattle.message_text.specs.Lines.{up_to}
-use Rattle.message_text.specs.Chain.{Place, is_kept_before, place_of, places_from, places, kept_message, kept_text}
+use Rattle.message_text.specs.Chain.{Place, is_kept_before, place_of, places_from, kept_message, kept_text}
 use Rattle.message_text.specs.Picked.{last_or}
 
 fixup_is_no_squash : (kind : ChainKind) → is_fixup kind ≡ true → is_squash kind ≡ false

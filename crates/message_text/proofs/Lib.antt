@@ -10,5 +10,6 @@ pub mod MarkLemmas
 pub mod ParagraphLemmas
 pub mod PickLemmas
 pub mod ShapeLaws
+pub mod StandLaws
 pub mod SubjectLemmas
 pub mod TrailerLemmas

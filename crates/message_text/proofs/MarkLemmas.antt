@@ -1,10 +1,10 @@
 -- A message with its first paragraph as comments, line by line.
-use Rattle.std.proofs.Common.{◌≡◌, ℕ, zero, suc, ◌+◌, ◌<◌, Bool, true, false, cond, List, [], ◌∷◌, ◌++◌, length, drop, refl, sym, ap, ◌∙◌, ⊎_elim, ◌⊎◌, arith, append_assoc}
+use Rattle.std.proofs.Common.{◌≡◌, ℕ, ◌+◌, ◌<◌, Bool, true, false, cond, List, [], ◌∷◌, ◌++◌, length, refl, sym, ap, ◌∙◌, ⊎_elim, ◌⊎◌, arith, append_assoc}
 use Rattle.std.proofs.lemmas.Bool.{cases_Bool, cond-true, cond-false}
 use Rattle.std.proofs.lemmas.List.{append-nil}
 use Rattle.std.proofs.lemmas.List.Splits.{join_with_byte-slice_split, length-slice_split}
-use Rattle.std.specs.Prelude.{map, not, filter, ◌&&◌}
-use Rattle.std.specs.List.{slice_split, join_with_byte}
+use Rattle.std.specs.Prelude.{map, not}
+use Rattle.std.specs.List.{join_with_byte}
 use Rattle.message_text.specs.Lines.{lines, text_of, is_line_feed, is_empty, has_some, up_to, from}
 use Rattle.message_text.specs.Paragraphs.{opening}
 use Rattle.message_text.specs.Chain.{commented, with_first_commented}

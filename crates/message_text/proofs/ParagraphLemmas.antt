@@ -1,11 +1,11 @@
 -- Paragraphs, line by line.
-use Rattle.std.proofs.Common.{◌≡◌, ℕ, zero, suc, ◌+◌, ◌<◌, Bool, true, false, cond, List, [], ◌∷◌, ◌++◌, length, refl, sym, ap, ◌∙◌, ⊎_elim, ◌⊎◌, arith, append_assoc}
+use Rattle.std.proofs.Common.{◌≡◌, ℕ, ◌+◌, ◌<◌, Bool, true, false, cond, List, [], ◌∷◌, ◌++◌, length, refl, sym, ap, ◌∙◌, ⊎_elim, ◌⊎◌, arith, append_assoc}
 use Rattle.std.proofs.lemmas.Bool.{cases_Bool, cond-true, cond-false, ne_eqb}
 use Rattle.std.proofs.lemmas.List.{append-nil}
 use Rattle.std.proofs.lemmas.List.Splits.{slice_split-cons_yes, slice_split-cons_no, length-slice_split}
-use Rattle.std.specs.Prelude.{map, not, filter, ◌&&◌}
-use Rattle.std.specs.List.{slice_split, onto_first, flat_map}
-use Rattle.message_text.specs.Lines.{lines, text_of, is_empty, has_some}
+use Rattle.std.specs.Prelude.{not, filter, ◌&&◌}
+use Rattle.std.specs.List.{slice_split, onto_first}
+use Rattle.message_text.specs.Lines.{text_of, is_empty, has_some}
 use Rattle.message_text.specs.Paragraphs.{paragraphs, spaced}
 
 pub text_of-append : (a b : List (List ℕ)) → text_of (a ++ b) ≡ text_of a ++ text_of b

@@ -1,15 +1,15 @@
 -- The shape of a cleaned text.
-use Rattle.std.proofs.Common.{◌≡◌, ◌≢◌, ℕ, zero, suc, ◌+◌, ◌<◌, Bool, true, false, cond, List, [], ◌∷◌, ◌++◌, length, refl, sym, ap, subst, ◌∙◌, ⊎_elim, ◌⊎◌, inl, inr, arith, append_assoc}
+use Rattle.std.proofs.Common.{◌≡◌, ◌≢◌, ℕ, ◌+◌, Bool, true, false, List, [], ◌∷◌, ◌++◌, refl, sym, ap, subst, ◌∙◌, ◌⊎◌, inl, inr, append_assoc}
 use Rattle.std.proofs.lemmas.Bool.{and_from, eq-eqb, false≢true}
 use Rattle.std.proofs.lemmas.List.{append-nil}
 use Rattle.std.proofs.lemmas.List.Elements.{All-from_recursion}
 use Rattle.std.specs.Prelude.{not, ◌&&◌}
 use Rattle.std.specs.List.{AllByRecursion as Each}
-use Rattle.message_text.specs.Lines.{lines, text_of, is_line_feed, is_empty, has_some, without_blanks}
-use Rattle.message_text.specs.Paragraphs.{paragraphs, spaced}
-use Rattle.message_text.specs.Cleaned.{is_comment, own_lines, cleaned, IsClean}
+use Rattle.message_text.specs.Lines.{text_of, is_line_feed, is_empty, without_blanks}
+use Rattle.message_text.specs.Paragraphs.{spaced}
+use Rattle.message_text.specs.Cleaned.{is_comment, cleaned, IsClean}
 use Rattle.message_text.proofs.ParagraphLemmas.{text_of-append}
-use Rattle.message_text.proofs.CleanLaws.{Own, Full, Paragraph, IsLine, kept_paragraphs, each_paragraph, each_own, cleaned-lines}
+use Rattle.message_text.proofs.CleanLaws.{Own, Full, Paragraph, kept_paragraphs, each_paragraph, each_own, cleaned-lines}
 
 -- no two empty lines in a row
 abbrev gap_free : List (List ℕ) → Bool

@@ -1,10 +1,10 @@
 -- The subject, line by line.
-use Rattle.std.proofs.Common.{◌≡◌, ℕ, ◌+◌, Bool, true, false, cond, List, [], ◌∷◌, ◌++◌, length, refl, sym, ap, ◌∙◌, ⊎_elim, ◌⊎◌}
+use Rattle.std.proofs.Common.{◌≡◌, ℕ, ◌+◌, Bool, true, false, cond, List, [], ◌∷◌, ◌++◌, refl, sym, ap, ◌∙◌, ⊎_elim, ◌⊎◌}
 use Rattle.std.proofs.lemmas.Bool.{cases_Bool, cond-true, cond-false}
 use Rattle.std.specs.Prelude.{map, not}
 use Rattle.std.proofs.lemmas.List.{append-nil}
 use Rattle.std.specs.List.{join_with_byte}
-use Rattle.message_text.specs.Lines.{lines, is_empty, has_some, up_to, from, without_blanks}
+use Rattle.message_text.specs.Lines.{lines, is_empty, up_to, without_blanks}
 use Rattle.message_text.specs.Paragraphs.{first_paragraph, subject}
 
 -- what lines add to a subject that has begun, or not

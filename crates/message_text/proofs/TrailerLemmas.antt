@@ -1,9 +1,9 @@
 -- Whether a text ends in trailers, line by line.
-use Rattle.std.proofs.Common.{◌≡◌, ℕ, zero, suc, ◌+◌, ◌<◌, Bool, true, false, cond, List, [], ◌∷◌, ◌++◌, length, drop, refl, sym, ap, ◌∙◌, ⊎_elim, ◌⊎◌, arith}
+use Rattle.std.proofs.Common.{◌≡◌, ℕ, ◌<◌, Bool, true, false, cond, List, [], ◌∷◌, length, drop, refl, sym, ap, ◌∙◌, ⊎_elim, ◌⊎◌, arith}
 use Rattle.std.proofs.lemmas.Bool.{cases_Bool, cases_lt, cond-true, cond-false, lt-ltb}
 use Rattle.std.proofs.lemmas.List.Sums.{prefix_len-le-length}
 use Rattle.std.proofs.lemmas.List.Splits.{slice_split-cons_yes, slice_split-cons_no}
-use Rattle.std.specs.Prelude.{map, not, filter, ◌&&◌, nat_lt, Option, Some, None}
+use Rattle.std.specs.Prelude.{map, not, filter, ◌&&◌, nat_lt, Some, None}
 use Rattle.std.specs.List.{slice_split, onto_first, list_all, position}
 use Rattle.message_text.specs.Lines.{lines, is_empty, has_some}
 use Rattle.message_text.specs.Paragraphs.{paragraphs}

@@ -22,3 +22,7 @@ pub record IsClean (text : List ℕ) : Type 0 where
   pub no_comment : All (λ line. is_comment line ≡ false) (lines text)
   pub no_blanks : All (λ line. without_blanks line ≡ line) (lines text)
   pub no_gap : (front back : List (List ℕ)) → lines text ≡ front ++ [] ∷ [] ∷ back → ⊥
+
+-- the text stands in the whole, byte for byte
+abbrev pub StandsIn : List ℕ → List ℕ → Type 0
+StandsIn part whole = (front : List ℕ) × (back : List ℕ) × (whole ≡ front ++ (part ++ back))

@@ -1,9 +1,7 @@
 //! What a squash chain is made of.
 
 ghost use Rattle.std.specs.Prelude.{◌≡◌};
-ghost use Rattle.std.specs.List.{list_all};
 ghost use Rattle.message_text.specs.Kinds.{is_first, is_squash, is_fixup};
-ghost use Rattle.message_text.specs.Lines.{up_to};
 
 use seq_base::Bytes;
 

@@ -1,6 +1,6 @@
 //! What is left of a text that an editor gave back.
 
-ghost use Rattle.std.specs.Prelude.{◌≡◌, ◌++◌, [], ◌∷◌, IfOk, OnOk};
+ghost use Rattle.std.specs.Prelude.{◌≡◌, IfOk};
 ghost use Rattle.message_text.specs.Cleaned.{is_comment, cleaned};
 
 use crate::lines::{lines_of, push_line, without_end_blanks};
