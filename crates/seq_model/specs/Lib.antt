@@ -7,3 +7,7 @@ pub mod StopKinds
 pub mod Refusals
 pub mod Report
 pub mod Status
+pub mod Refusing
+pub mod Words
+pub mod Pick
+pub mod Answers

@@ -5,6 +5,8 @@ mod fields;
 mod names;
 mod refusals;
 mod stops;
+#[cfg(test)]
+mod tests;
 
 ghost use Rattle.std.specs.Prelude.{◌≡◌, ◌++◌, ◌∷◌, [], IfOk, OnOk, map};
 ghost use Rattle.seq_model.specs.Report.{head_field, lines_after, report_of, unmerged_lines};
