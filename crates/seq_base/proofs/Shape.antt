@@ -9,6 +9,8 @@ use Rattle.std.specs.Ordering.{eq_by_cmp, is_eq}
 use Rattle.std.specs.Prelude.{is_some}
 use Rattle.std.specs.declared.cmp.Ordering.{Ordering}
 use Rattle.std.specs.declared.cmp.Ordering.TheVariants.{Less, Equal, Greater}
+use Rattle.std.proofs.lemmas.Map.Text.{is_eq-slice_cmp}
+use Rattle.std.proofs.lemmas.Slice.Eq.{bytes_eq-Decides}
 use Rattle.seq_base.specs.World.{World, IsWorld, path_cmp, is_blocked, is_below}
 
 is_equal : (o : Ordering) → is_eq o ≡ true → o ≡ Equal
@@ -16,7 +18,7 @@ is_equal Equal h = refl
 is_equal Less h = cc
 is_equal Greater h = cc
 
-same_path : (p q : List ℕ) → eq_by_cmp path_cmp p q ≡ true → p ≡ q
+pub same_path : (p q : List ℕ) → eq_by_cmp path_cmp p q ≡ true → p ≡ q
 same_path p q h = slice_cmp-IsAntisymmetric nat_cmp-IsAntisymmetric p q (is_equal (path_cmp p q) h)
 
 neither : (a b : Bool) → a || b ≡ false → (a ≡ false) × (b ≡ false)
@@ -38,9 +40,12 @@ free_of w path file free there =
     neither (is_below path file) (is_below file path)
     (none_passes (λ k. is_below path k || is_below k path) file (map.keys w) (sym (contains_key-keys w file) ∙ there) free)
 
-after : (w : World) (path bytes q : List ℕ) (b : Bool) → eq_by_cmp path_cmp q path ≡ b → map.contains_key (map.insert w path bytes) q ≡ true → cond b (q ≡ path) (map.contains_key w q ≡ true)
+pub after : (w : World) (path bytes q : List ℕ) (b : Bool) → eq_by_cmp path_cmp q path ≡ b → map.contains_key (map.insert w path bytes) q ≡ true → cond b (q ≡ path) (map.contains_key w q ≡ true)
 after w path bytes q true e there = same_path q path e
 after w path bytes q false e there = sym (ap is_some (get-insert nat_list_cmp_total w path bytes q) ∙ ap (λ b. is_some (cond b (Some bytes) (map.get w q))) e) ∙ there
+
+pub equal_to_itself : (p : List ℕ) → eq_by_cmp path_cmp p p ≡ true
+equal_to_itself p = is_eq-slice_cmp p p ∙ (bytes_eq-Decides p p).1 refl
 
 past_end : (p : List ℕ) → slice_index p (length p) ≡ 0
 past_end [] = refl
@@ -68,7 +73,7 @@ stays_world w path bytes shaped free folder file has_folder has_file =
       ] b
     ] a
 
-there_after_remove : (w : World) (path q : List ℕ) → map.contains_key (map.remove w path) q ≡ true → map.contains_key w q ≡ true
+pub there_after_remove : (w : World) (path q : List ℕ) → map.contains_key (map.remove w path) q ≡ true → map.contains_key w q ≡ true
 there_after_remove w path q there =
     elim (eq_by_cmp path_cmp q path) as (λ b. is_some (cond b None (map.get w q)) ≡ true → map.contains_key w q ≡ true) [
       | true ↦ λ h. cc

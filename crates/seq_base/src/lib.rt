@@ -3,6 +3,7 @@
 
 mod bytes;
 mod id;
+pub mod laws;
 mod map;
 mod mode;
 mod path;

@@ -41,3 +41,26 @@ pub fn is_store_path(path: &[u8]) -> bool
 {
     is_text(path) && has_good_parts(path)
 }
+
+#[cfg(test)]
+mod tests {
+    use super::*;
+
+    #[test]
+    fn store_paths_stay_at_the_root(rt: HostRuntime) {
+        for path in [b".git/HEAD".as_slice(), b"a", b".GIT/x", b"\xc3\xa9"] {
+            assert!(rt; is_store_path(path));
+        }
+        for path in [
+            b"".as_slice(),
+            b"/a",
+            b"a/",
+            b"a/../b",
+            b"./a",
+            b"a\0",
+            b"\xff",
+        ] {
+            assert!(rt; !is_store_path(path));
+        }
+    }
+}
