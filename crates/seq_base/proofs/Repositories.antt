@@ -1,35 +1,24 @@
 -- A repository stays one.
 use Rattle.std.proofs.Common.{◌≡◌, ◌⊎◌, ℕ, ◌||◌, Bool, true, false, cond, List, [], ◌∷◌, ◌++◌, refl, sym, ap, subst, ◌∙◌, inl, inr}
 use Rattle.std.specs.FinMap as map
-use Rattle.std.specs.FinMap.{contains_key-keys}
-use Rattle.std.specs.List.{list_any}
 use Rattle.std.specs.Ordering.{eq_by_cmp}
-use Rattle.std.proofs.lemmas.Bool.{or_from, or_left, or_right, both_ways, false_from_ne_true, not-true, and_parts}
+use Rattle.std.proofs.lemmas.Bool.{both_ways, false_from_ne_true, not-true, and_parts}
 use Rattle.seq_base.specs.Paths.{parts}
 use Rattle.seq_base.specs.Repository.{IsRepository, is_file_place, is_folder_place, is_in_place}
 use Rattle.seq_base.specs.World.{World, is_below, is_blocked, path_cmp}
 use Rattle.seq_base.proofs.Below.{behind}
 use Rattle.seq_base.proofs.Places.{folder_of_place, in_place_below, parts-behind, place_in_place, some_part}
-use Rattle.seq_base.proofs.Shape.{after, equal_to_itself, removed_world, stays_world, there_after_remove}
-
--- a test that fails at each path of a list
-none_passes : (test : List ℕ → Bool) (ks : List (List ℕ)) → ((q : List ℕ) → list_any (eq_by_cmp path_cmp q) ks ≡ true → test q ≡ false) → list_any test ks ≡ false
-none_passes test [] h = refl
-none_passes test (k ∷ ks) h =
-    or_from (test k) (list_any test ks)
-    (h k (or_left (eq_by_cmp path_cmp k k) (list_any (eq_by_cmp path_cmp k) ks) (equal_to_itself k)))
-    (none_passes test ks (λ q there. h q (or_right (eq_by_cmp path_cmp q k) (list_any (eq_by_cmp path_cmp q) ks) there)))
+use Rattle.seq_base.proofs.Shape.{after, free_from, removed_world, stays_world, there_after_remove}
 
 -- where a file is kept, a put is not blocked
 pub kept_is_free : (w : World) (path : List ℕ) → IsRepository w → is_file_place (parts path) ≡ true → is_blocked w path ≡ false
-kept_is_free w path repository place =
-    none_passes (λ file. is_below path file || is_below file path) (map.keys w) (λ file among.
-    let there : map.contains_key w file ≡ true = contains_key-keys w file ∙ among in
-    or_from (is_below path file) (is_below file path) (repository.files path file place there)
-    (false_from_ne_true (is_below file path) (λ is.
-    let at = behind file path is in
-    let whole : is_file_place (parts file ++ parts at.0) ≡ true = subst (λ (ps : List (List ℕ)). is_file_place ps ≡ true) (ap parts at.1 ∙ parts-behind file at.0) place in
-    both_ways (map.contains_key w file) (repository.folders file (folder_of_place (parts file) (parts at.0) (some_part file) (some_part at.0) whole)) there)))
+kept_is_free w path repository place = free_from w path (λ file there. (
+  repository.files path file place there,
+  false_from_ne_true (is_below file path) (λ is.
+      let at = behind file path is in
+      let whole : is_file_place (parts file ++ parts at.0) ≡ true = subst (λ (ps : List (List ℕ)). is_file_place ps ≡ true) (ap parts at.1 ∙ parts-behind file at.0) place in
+      both_ways (map.contains_key w file) (repository.folders file (folder_of_place (parts file) (parts at.0) (some_part file) (some_part at.0) whole)) there),
+))
 
 -- after a put that is not blocked, of a file that stands in place
 pub stays_repository : (w : World) (path bytes : List ℕ) → IsRepository w → is_blocked w path ≡ false → is_in_place path ≡ true → IsRepository (map.insert w path bytes)
