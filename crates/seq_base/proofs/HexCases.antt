@@ -1,11 +1,11 @@
 -- Hex digits in either case.
-use Rattle.std.proofs.Common.{◌≡◌, ℕ, ◌+◌, ◌*◌, ◌/◌, ◌%◌, ◌<◌, ◌==◌, ◌&&◌, ◌||◌, not, Bool, true, false, List, [], ◌∷◌, length, map, suc, Option, Some, None, Result, Ok, Err, unwrap_or, refl, sym, ap, ◌∙◌, arith}
+use Rattle.std.proofs.Common.{◌≡◌, ℕ, ◌+◌, ◌*◌, ◌/◌, ◌%◌, ◌<◌, ◌==◌, ◌&&◌, ◌||◌, not, Bool, true, List, [], ◌∷◌, length, map, suc, Option, Some, None, Result, Ok, Err, unwrap_or, refl, sym, ap, ◌∙◌, arith}
 use Rattle.std.specs.Prelude.{is_some, slice_index, ◌↔◌}
 use Rattle.std.specs.Char.{to_ascii_lowercase}
 use Rattle.std.proofs.lemmas.Bool.{agree_below_at, and_parts, eqb-true}
-use Rattle.hex.specs.Hex.{IsBytes, decode_of, decode_pairs, encode_lower, encode_upper, encode_with, hex_digit_value, lower_digits, upper_digits, value_at, pair_value, ◌>>=◌, digit_or_error}
+use Rattle.hex.specs.Hex.{IsBytes, decode_pairs, encode_lower, encode_upper, encode_with, hex_digit_value, lower_digits, upper_digits, value_at, pair_value, ◌>>=◌, digit_or_error}
 use Rattle.hex.specs.declared.error.FromHexError.{FromHexError}
-use Rattle.hex.proofs.HexLemmas.{IsDigits-lower_digits, decode_of-ok, decode_of-even, length-encode_with, decode_of-encode_lower, decode_of-encode_upper}
+use Rattle.hex.proofs.HexLemmas.{IsDigits-lower_digits, decode_of-even, length-encode_with, decode_of-encode_lower, decode_of-encode_upper}
 use Rattle.seq_base.specs.Ids.{SpellsId}
 
 -- a digit in lower case is that of its value, and both cases have one value

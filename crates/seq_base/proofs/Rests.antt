@@ -1,5 +1,5 @@
 -- What the rest of a world has.
-use Rattle.std.proofs.Common.{◌≡◌, ℕ, Bool, false, true, cond, List, Option, None, sym, ap, refl, subst}
+use Rattle.std.proofs.Common.{◌≡◌, ℕ, cond, List, None, sym, ap}
 use Rattle.std.specs.FinMap as map
 use Rattle.std.specs.FinMap.{get-retain_keys, slice_cmp-IsAntisymmetric, nat_cmp-IsAntisymmetric}
 use Rattle.seq_base.specs.StatePaths.{is_rest_path, rest}
