@@ -1,7 +1,7 @@
 //! Maps from paths to entries.
 
 ghost use Rattle.std.specs.Prelude.{◌≡◌, ◌≢◌, ◌≤◌, IfErr, MatchOption, None, OnErr, OnOk, Some, [], length, slice_get};
-ghost use Rattle.seq_base.specs.PathMaps.{is_less, is_folder_of, clashes, entry_at, put, first_clash, IsPlace};
+ghost use Rattle.seq_base.specs.PathMaps.{is_less, is_folder_of, clashes, entry_at, put, first_clash, IsPathMap, IsPlace};
 ghost use Rattle.seq_base.specs.InsertFaults.{IsInsertFault};
 
 use crate::id::Id;
@@ -83,7 +83,8 @@ impl PathMap {
     }
 
     pub fn len(&self) -> usize
-        ensures { result ≡ length self.now }
+        ensures length { result ≡ length self.now }
+        ensures map { IsPathMap self.now }
     {
         self.entries.len()
     }
