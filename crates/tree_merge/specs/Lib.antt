@@ -1,2 +1,5 @@
 pub mod Choices
 pub mod Choosing
+pub mod Plans
+pub mod Walks
+pub mod Marks

@@ -23,19 +23,37 @@ pub enum Choice {
 pub fn three_way(base: Option<Entry>, ours: Option<Entry>, theirs: Option<Entry>) -> Choice
     ensures { result ≡ choice base ours theirs }
 {
-    if is_same(&ours, &theirs) {
-        return Choice::Take(ours);
-    }
-    if is_same(&base, &ours) {
-        return Choice::Take(theirs);
-    }
-    if is_same(&base, &theirs) {
-        return Choice::Take(ours);
-    }
-    merge_changed(&base, ours, theirs)
+    choose(&base, &ours, &theirs)
 }
 
-fn is_same(a: &Option<Entry>, b: &Option<Entry>) -> bool
+pub(crate) fn choose(base: &Option<Entry>, ours: &Option<Entry>, theirs: &Option<Entry>) -> Choice
+    ensures { result ≡ choice base.now ours.now theirs.now }
+{
+    if is_same(ours, theirs) {
+        return Choice::Take(copy_of(ours));
+    }
+    if is_same(base, ours) {
+        return Choice::Take(copy_of(theirs));
+    }
+    if is_same(base, theirs) {
+        return Choice::Take(copy_of(ours));
+    }
+    merge_changed(base, copy_of(ours), copy_of(theirs))
+}
+
+fn copy_of(entry: &Option<Entry>) -> Option<Entry>
+    ensures { result ≡ entry.now }
+{
+    match entry {
+        Some(entry) => Some(Entry {
+            mode: entry.mode,
+            id: entry.id,
+        }),
+        None => None,
+    }
+}
+
+pub(crate) fn is_same(a: &Option<Entry>, b: &Option<Entry>) -> bool
     ensures { result ≡ same_entry a.now b.now }
 {
     match (a, b) {
