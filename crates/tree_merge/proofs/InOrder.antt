@@ -8,7 +8,7 @@ use Rattle.tree_merge.specs.declared.plans.Planned.{Planned}
 use Rattle.tree_merge.specs.Plans.{AreInOrder, Entries, is_listed, listed, paths_of, row_at, with_path}
 use Rattle.tree_merge.proofs.Order.{less_trans, otherwise_less, same_is}
 
-abbrev Ascends : List (List ℕ) → Type 0
+abbrev pub Ascends : List (List ℕ) → Type 0
 Ascends [] = Unit {0}
 Ascends (p ∷ ps) = AllByRecursion (λ q. is_less p q ≡ true) ps × Ascends ps
 
@@ -34,7 +34,7 @@ ascends_with (q ∷ ps) p h = at (ascends_with ps p h.1) (bytes_eq q p) refl (is
     at rest false e true f = ((f, all_less p q ps f h.0), h)
     at rest false e false f = (all_with q ps p h.0 (otherwise_less q p e f), rest)
 
-ascends_paths : (es : Entries) → Ascends (paths_of es)
+pub ascends_paths : (es : Entries) → Ascends (paths_of es)
 ascends_paths [] = tt
 ascends_paths (e ∷ es) = ascends_with (paths_of es) e.0 (ascends_paths es)
 

@@ -6,3 +6,4 @@ pub mod Steps
 pub mod InOrder
 pub mod Clashes
 pub mod Marking
+pub mod Apart

@@ -3,3 +3,4 @@ pub mod Choosing
 pub mod Plans
 pub mod Walks
 pub mod Marks
+pub mod Results

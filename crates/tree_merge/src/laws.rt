@@ -3,7 +3,10 @@
 ghost use Rattle.std.specs.Prelude.{◌≡◌, ◌↔◌, IsTrue};
 ghost use Rattle.tree_merge.specs.declared.rules.Choice.TheVariants.{Take};
 ghost use Rattle.tree_merge.specs.Choices.{same_entry};
+ghost use Rattle.seq_base.specs.PathMaps.{AreApart, IsPathMap};
 ghost use Rattle.tree_merge.specs.Choosing.{choice};
+ghost use Rattle.tree_merge.specs.Plans.{Entries, plan_of};
+ghost use Rattle.tree_merge.specs.Results.{HasNoClash, result_of};
 
 use seq_base::Entry;
 
@@ -27,4 +30,9 @@ pub fn sides_can_be_exchanged(
     taken: Option<Entry>,
 )
     ensures { (choice base ours theirs ≡ Take taken) ↔ (choice base theirs ours ≡ Take taken) }
+{}
+
+/// Where no path of a plan clashes, no path of the merge's result lies below another.
+pub fn results_without_clash_are_apart()
+    ensures { (b o t : Entries) → IsPathMap b → IsPathMap o → IsPathMap t → HasNoClash (plan_of b o t) → AreApart (result_of b o t) }
 {}

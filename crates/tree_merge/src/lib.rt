@@ -8,6 +8,6 @@ mod plans;
 mod rules;
 mod walk;
 
-pub use laws::{an_unchanged_side_yields, sameness_is_equality, sides_can_be_exchanged};
+pub use laws::{an_unchanged_side_yields, results_without_clash_are_apart, sameness_is_equality, sides_can_be_exchanged};
 pub use plans::{MergePlan, Planned, PlannedPaths, plan};
 pub use rules::{Choice, three_way};

@@ -113,23 +113,16 @@ fn can_be_file(entry: &Option<Entry>) -> bool
 fn merge_files(base: &Option<Entry>, ours: &Entry, theirs: &Entry) -> Choice
     ensures { result ≡ merged_files base.now ours.now theirs.now }
 {
-    let mode = merge_modes(base, ours, theirs);
-    match (merge_ids(base, ours, theirs), mode) {
-        (Some(id), Some(mode)) => Choice::Take(Some(Entry { mode, id })),
-        (Some(id), None) => Choice::Conflict {
-            file: Some(Entry {
-                mode: ours.mode,
-                id,
-            }),
+    let (mode, mode_clean) = match merge_modes(base, ours, theirs) {
+        Some(mode) => (mode, true),
+        None => (ours.mode, false),
+    };
+    match merge_ids(base, ours, theirs) {
+        Some(id) if mode_clean => Choice::Take(Some(Entry { mode, id })),
+        Some(id) => Choice::Conflict {
+            file: Some(Entry { mode, id }),
         },
-        (None, Some(mode)) => Choice::Content {
-            mode,
-            mode_clean: true,
-        },
-        (None, None) => Choice::Content {
-            mode: ours.mode,
-            mode_clean: false,
-        },
+        None => Choice::Content { mode, mode_clean },
     }
 }
 
