@@ -62,7 +62,7 @@ apart_pair [] p q h there also ne = absurd cc
 apart_pair (e ∷ es) p q h there also ne = at (apart_pair es p q h.1) (bytes_eq e.0 p) refl (bytes_eq e.0 q) refl there also
   where
     at : (is_some (entry_at es p) ≡ true → is_some (entry_at es q) ≡ true → bytes_eq p q ≡ false → clashes p q ≡ false) → (t : Bool) → bytes_eq e.0 p ≡ t → (u : Bool) → bytes_eq e.0 q ≡ u
-      → is_some (cond t (Some e.1) (entry_at es p)) ≡ true → is_some (cond u (Some e.1) (entry_at es q)) ≡ true → clashes p q ≡ false
+        → is_some (cond t (Some e.1) (entry_at es p)) ≡ true → is_some (cond u (Some e.1) (entry_at es q)) ≡ true → clashes p q ≡ false
     at rest true is true also_is there also = absurd (let k = same_is e.0 p is in let m = subst (λ (r : List ℕ). bytes_eq r q ≡ true) k also_is in cc)
     at rest true is false also_is there also = subst (λ (r : List ℕ). clashes r q ≡ false) (same_is e.0 p is) (apart_first e.0 es q h.0 also)
     at rest false is true also_is there also = folder_self_none q p (subst (λ (r : List ℕ). clashes r p ≡ false) (same_is e.0 q also_is) (apart_first e.0 es p h.0 there))
@@ -177,8 +177,8 @@ module _ (T : List ℕ → Option Entry) where
       at (Some e) is rest = (h zero q (omega arith) (ap is_some is), rest)
 
   apart_kept : (ps : List (List ℕ)) → Ascends ps
-    → ((j k : ℕ) (d : List ℕ) → j < length ps → k < length ps → bytes_eq (get_or ps j d) (get_or ps k d) ≡ false → is_some (T (get_or ps j d)) ≡ true → is_some (T (get_or ps k d)) ≡ true → clashes (get_or ps j d) (get_or ps k d) ≡ false)
-    → AreApart (kept ps)
+      → ((j k : ℕ) (d : List ℕ) → j < length ps → k < length ps → bytes_eq (get_or ps j d) (get_or ps k d) ≡ false → is_some (T (get_or ps j d)) ≡ true → is_some (T (get_or ps k d)) ≡ true → clashes (get_or ps j d) (get_or ps k d) ≡ false)
+      → AreApart (kept ps)
   apart_kept [] up h = tt
   apart_kept (p ∷ ps) up h = at (T p) refl (apart_kept ps up.1 (λ j k d l m. h (suc j) (suc k) d (omega arith) (omega arith)))
     where
