@@ -14,4 +14,4 @@ pub use id::{Id, IdFault};
 pub use map::{Entry, InsertFault, PathMap};
 pub use mode::Mode;
 pub use path::{Path, PathFault};
-pub use store_path::is_store_path;
+pub use store_path::{is_store_path, is_text};

@@ -19,7 +19,8 @@ fn has_no_nul(part: &[u8]) -> bool
 }
 
 #[tactic(auto, using(crate::proofs::Texts::text_tests))]
-fn is_text(bytes: &[u8]) -> bool
+/// Whether bytes are UTF-8.
+pub fn is_text(bytes: &[u8]) -> bool
     ensures { result ≡ is_text_of bytes.now }
 {
     match str::from_utf8(bytes) {
