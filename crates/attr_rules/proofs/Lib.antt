@@ -1,0 +1,4 @@
+pub mod Led
+pub mod Marks
+pub mod Sets
+pub mod Fitting

@@ -1,0 +1,5 @@
+pub mod Letters
+pub mod Pieces
+pub mod Matches
+pub mod Reach
+pub mod Coded
