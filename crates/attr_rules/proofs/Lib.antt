@@ -2,3 +2,4 @@ pub mod Led
 pub mod Marks
 pub mod Sets
 pub mod Fitting
+pub mod Parts

@@ -3,3 +3,4 @@ pub mod Pieces
 pub mod Matches
 pub mod Reach
 pub mod Coded
+pub mod Rules
