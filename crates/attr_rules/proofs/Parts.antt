@@ -34,9 +34,9 @@ found_first {Y} f p xs none = elim (eqb_tells (position_or_len p xs) (length xs)
       let all : xs ≡ before_first p xs = sym (take-length xs) ∙ ap (λ (k : ℕ). take k xs) (sym e.1) in
       let nothing : after_first p xs ≡ [] = drop_of_length-le xs (omega (arith, e.1)) in
       let one : slice_split p xs ≡ xs ∷ [] =
-          slice_split_none p xs (All-from_get_or (λ (x : ℕ). p x ≡ false) xs 0 (λ i h. fails_before_first p xs i 0 (omega (arith, e.1)))) in
+      slice_split_none p xs (All-from_get_or (λ (x : ℕ). p x ≡ false) xs 0 (λ i h. fails_before_first p xs i 0 (omega (arith, e.1)))) in
       let empty : filter_map f (slice_split p (after_first p xs)) ≡ [] =
-          ap (λ (t : List ℕ). filter_map f (slice_split p t)) nothing ∙ ap (λ (o : Option Y). cons_option o []) none in
+      ap (λ (t : List ℕ). filter_map f (slice_split p t)) nothing ∙ ap (λ (o : Option Y). cons_option o []) none in
       ap (filter_map f) one ∙ ap (λ (t : List ℕ). cons_option (f t) []) all ∙ ap (cons_option (f (before_first p xs))) (sym empty)
   | inr e ↦ ap (filter_map f) (slice_split_first p xs 0 (omega (arith, e.1, prefix_len-le-length (λ x. not (p x)) xs)))
 ]

@@ -4,3 +4,6 @@ pub mod Matches
 pub mod Reach
 pub mod Coded
 pub mod Rules
+pub mod Attributes
+pub mod Known
+pub mod MergeAttrs

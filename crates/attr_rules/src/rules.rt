@@ -47,7 +47,7 @@ impl Rules {
     }
 }
 
-fn bytes_of(alloc: Global, bytes: &[u8]) -> Result<Bytes, AllocError>
+pub fn bytes_of(alloc: Global, bytes: &[u8]) -> Result<Bytes, AllocError>
     ensures { IfOk result (λ b. b ≡ bytes.now) }
 {
     Ok(Bytes::from_vec(Vec::from_slice(alloc, bytes)?))
