@@ -7,3 +7,5 @@ pub mod InsertFaults
 pub mod World
 pub mod StorePaths
 pub mod Steps
+pub mod StatePaths
+pub mod Repository

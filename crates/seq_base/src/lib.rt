@@ -3,6 +3,7 @@
 
 mod bytes;
 mod id;
+pub mod laws;
 mod map;
 mod mode;
 mod path;
@@ -13,4 +14,4 @@ pub use id::{Id, IdFault};
 pub use map::{Entry, InsertFault, PathMap};
 pub use mode::Mode;
 pub use path::{Path, PathFault};
-pub use store_path::is_store_path;
+pub use store_path::{is_store_path, is_text};

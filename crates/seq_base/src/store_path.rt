@@ -19,7 +19,8 @@ fn has_no_nul(part: &[u8]) -> bool
 }
 
 #[tactic(auto, using(crate::proofs::Texts::text_tests))]
-fn is_text(bytes: &[u8]) -> bool
+/// Whether bytes are UTF-8.
+pub fn is_text(bytes: &[u8]) -> bool
     ensures { result ≡ is_text_of bytes.now }
 {
     match str::from_utf8(bytes) {
@@ -39,4 +40,27 @@ pub fn is_store_path(path: &[u8]) -> bool
     ensures { result ≡ is_store_path_of path.now }
 {
     is_text(path) && has_good_parts(path)
+}
+
+#[cfg(test)]
+mod tests {
+    use super::*;
+
+    #[test]
+    fn store_paths_stay_at_the_root(rt: HostRuntime) {
+        for path in [b".git/HEAD".as_slice(), b"a", b".GIT/x", b"\xc3\xa9"] {
+            assert!(rt; is_store_path(path));
+        }
+        for path in [
+            b"".as_slice(),
+            b"/a",
+            b"a/",
+            b"a/../b",
+            b"./a",
+            b"a\0",
+            b"\xff",
+        ] {
+            assert!(rt; !is_store_path(path));
+        }
+    }
 }

@@ -1,0 +1,29 @@
+-- What a merge without conflicts leaves (git-merge(1), "TRUE MERGE").
+use Rattle.std.specs.Prelude.{◌≡◌, ℕ, false, List, ◌++◌, Option, Some, None}
+use Rattle.std.specs.Option.{option_map}
+use Rattle.std.specs.List.{AllByRecursion, filter_map}
+use Rattle.seq_base.specs.declared.map.Entry.{Entry}
+use Rattle.seq_base.specs.PathMaps.{entry_at}
+use Rattle.tree_merge.specs.declared.rules.Choice.{Choice}
+use Rattle.tree_merge.specs.declared.rules.Choice.TheVariants.{Take, Content, Conflict}
+use Rattle.tree_merge.specs.declared.plans.Planned.{Planned}
+use Rattle.tree_merge.specs.Choosing.{choice}
+use Rattle.tree_merge.specs.Plans.{Entries, paths_of, plan_of}
+
+-- the entry that a choice takes
+abbrev pub taken : Choice → Option Entry
+taken (Take entry) = entry
+taken (Content mode clean) = None
+taken (Conflict file) = None
+
+-- what is taken at a path
+abbrev pub taken_at : Entries → Entries → Entries → List ℕ → Option Entry
+taken_at base ours theirs path = taken (choice (entry_at base path) (entry_at ours path) (entry_at theirs path))
+
+-- the paths at which an entry is taken, in order, with what is taken
+abbrev pub result_of : Entries → Entries → Entries → Entries
+result_of base ours theirs = filter_map (λ path. option_map (λ entry. (path, entry)) (taken_at base ours theirs path)) (paths_of (base ++ ours ++ theirs))
+
+-- no path of a plan clashes
+abbrev pub HasNoClash : List Planned → Type 0
+HasNoClash = AllByRecursion (λ row. row.clash ≡ false)
