@@ -1,0 +1,6 @@
+pub mod PathTests
+pub mod FrontLaws
+pub mod Sorted
+pub mod Trailers
+pub mod EntryLoop
+pub mod Written

@@ -1,0 +1,4 @@
+pub mod Entries
+pub mod Spelling
+pub mod Fronts
+pub mod Reading

@@ -1,0 +1,159 @@
+//! Reading an index.
+
+ghost use Rattle.std.specs.Prelude.{◌≡◌, ◌≢◌, [], length};
+ghost use Rattle.index_file.specs.Reading.{Gives, entry_of as entry_with, entry_at, entries_at, header_at, extension_at, trailer_at, is_trailer, index_of};
+
+use crate::entry::IndexEntry;
+use crate::fault::IndexFault;
+use crate::fields::{are_zero, front_of, id_of, mode_numbered, u16_of, u32_of};
+use crate::order::append;
+use seq_base::{Id, Mode, Path, PathFault};
+use sha1::Sha1;
+use std::alloc::Global;
+
+/// How many entries there are.
+#[tactic(auto, unfolding(crate::specs::Reading::header_at))]
+fn header_of(bytes: &[u8]) -> Result<(u32, &[u8]), IndexFault>
+    ensures { Gives (λ x. (x.0, x.1.now)) result (header_at bytes.now) }
+{
+    if !bytes.starts_with(b"DIRC") {
+        return Err(IndexFault::Magic);
+    }
+    let (version, rest) = u32_of(&bytes[4..])?;
+    if version != 2 {
+        return Err(IndexFault::Version { n: u64::from(version) });
+    }
+    u32_of(rest)
+}
+
+/// What entry n has where its path cannot be made.
+fn name_fault(n: u64, fault: PathFault) -> IndexFault
+    ensures memory { fault ≡ PathFault.Memory → result ≡ IndexFault.Memory }
+    ensures other { fault ≢ PathFault.Memory → result ≡ IndexFault.Name n }
+{
+    match fault {
+        PathFault::Memory => IndexFault::Memory,
+        _ => IndexFault::Name { n },
+    }
+}
+
+/// The entry with these fields, or entry n is bad.
+#[tactic(auto, unfolding(crate::specs::Reading::entry_of))]
+fn entry_with_fields(alloc: Global, n: u64, mode: Option<Mode>, id: [u8; 20], flags: u16, path: &[u8], padding: &[u8]) -> Result<IndexEntry, IndexFault>
+    ensures { Gives (λ e. e) result (entry_with n mode id flags path.now padding.now) }
+{
+    let Some(mode) = mode else {
+        return Err(IndexFault::Name { n });
+    };
+    if flags / 16384 % 2 != 0 || !are_zero(padding) {
+        return Err(IndexFault::Name { n });
+    }
+    match Path::new(alloc, path) {
+        Ok(path) => Ok(IndexEntry {
+            path,
+            stage: (flags / 4096 % 4) as u8,
+            mode,
+            id: Id::from_bytes(id),
+        }),
+        Err(fault) => Err(name_fault(n, fault)),
+    }
+}
+
+/// Entry n, from 1.
+#[tactic(auto, unfolding(crate::specs::Reading::entry_at))]
+fn entry_of(alloc: Global, n: u64, bytes: &[u8]) -> Result<(IndexEntry, &[u8]), IndexFault>
+    ensures { Gives (λ x. (x.0, x.1.now)) result (entry_at n bytes.now) }
+{
+    let (_, rest) = front_of(24, bytes)?;
+    let (mode, rest) = u32_of(rest)?;
+    let (_, rest) = front_of(12, rest)?;
+    let (id, rest) = id_of(rest)?;
+    let (flags, rest) = u16_of(rest)?;
+    let len = usize::from(flags % 4096);
+    let (path, rest) = front_of(len, rest)?;
+    let (padding, rest) = front_of(8 - (62 + len) % 8, rest)?;
+    let entry = entry_with_fields(alloc, n, mode_numbered(mode), id, flags, path, padding)?;
+    Ok((entry, rest))
+}
+
+/// So many entries.
+fn entries_of(alloc: Global, count: u32, bytes: &[u8]) -> Result<(Vec<IndexEntry>, &[u8]), IndexFault>
+    ensures { Gives (λ x. (x.0.items, x.1.now)) result (entries_at count [] bytes.now) }
+{
+    let mut entries = Vec::new(alloc);
+    let mut files = vec![in alloc; false]?;
+    let mut rest = bytes;
+    for i in 0..count {
+        match entry_of(alloc, u64::from(i) + 1, rest) {
+            Ok(found) => {
+                append(&mut entries, &mut files, found.0)?;
+                rest = found.1;
+            }
+            Err(fault) => return Err(fault),
+        }
+    }
+    Ok((entries, rest))
+}
+
+/// What stands behind an extension that may be skipped.
+#[tactic(auto, unfolding(crate::specs::Reading::extension_at))]
+fn skip_extension(bytes: &[u8]) -> Result<&[u8], IndexFault>
+    ensures { Gives (λ x. x.now) result (extension_at bytes.now) }
+{
+    if bytes.len() < 28 {
+        return Err(IndexFault::Count);
+    }
+    let tag = [bytes[0], bytes[1], bytes[2], bytes[3]];
+    if !bytes[0].is_ascii_uppercase() {
+        return Err(IndexFault::Extension { tag });
+    }
+    let (len, _) = u32_of(&bytes[4..])?;
+    let end = 8 + len as usize;
+    if bytes.len() < end + 20 {
+        return Err(IndexFault::Count);
+    }
+    Ok(&bytes[end..])
+}
+
+/// The last twenty bytes, behind the extensions.
+fn trailer_of(bytes: &[u8]) -> Result<&[u8], IndexFault>
+    ensures { Gives (λ x. x.now) result (trailer_at (length bytes.now) bytes.now) }
+{
+    let mut rest = bytes;
+    while rest.len() != 20 {
+        rest = skip_extension(rest)?;
+    }
+    Ok(rest)
+}
+
+fn is_hash(trailer: &[u8], body: &[u8]) -> bool
+    ensures { result ≡ is_trailer body.now trailer.now }
+{
+    let hash = Sha1::digest(body);
+    trailer == hash.as_slice() || are_zero(trailer)
+}
+
+/// The entries that the bytes spell.
+#[tactic(auto, unfolding(crate::specs::Reading::index_of))]
+fn read_index(alloc: Global, bytes: &[u8]) -> Result<Vec<IndexEntry>, IndexFault>
+    ensures { Gives (λ v. v.items) result (index_of bytes.now) }
+{
+    let (count, rest) = header_of(bytes)?;
+    let (entries, rest) = entries_of(alloc, count, rest)?;
+    let trailer = trailer_of(rest)?;
+    if is_hash(trailer, &bytes[..bytes.len().saturating_sub(20)]) {
+        Ok(entries)
+    } else {
+        Err(IndexFault::Hash)
+    }
+}
+
+/// The entries of an index file (gitformat-index(5)), in order, or its first fault.
+///
+/// Stat words, the assume-valid bit and the content of extensions are not looked at. A trailer of zero is accepted.
+pub fn parse_index(alloc: Global, bytes: &[u8]) -> Result<Vec<IndexEntry>, IndexFault>
+    // Which fault it is.
+    ensures exact { Gives (λ v. v.items) result (index_of bytes.now) }
+{
+    read_index(alloc, bytes)
+}
