@@ -4,3 +4,6 @@ pub mod Sorted
 pub mod Trailers
 pub mod EntryLoop
 pub mod Written
+pub mod Rows
+pub mod Sequences
+pub mod Whole

@@ -1,7 +1,7 @@
 -- Reading an index from the left (gitformat-index(5)).
 use Rattle.std.specs.Prelude.{◌≡◌, ℕ, zero, suc, ◌+◌, ◌-◌, ◌/◌, ◌%◌, Bool, true, false, not, ◌&&◌, ◌||◌, ◌==◌, nat_lt, nat_le, if◌then◌else◌, List, [], ◌∷◌, ◌++◌, length, take, drop, slice_index, Option, Some, None, Result, Ok, Err, codes, is_none}
 use Rattle.std.specs.List.{list_all}
-use Rattle.std.specs.Int.{w32, w16, from_be_bytes}
+use Rattle.std.specs.Int.{w32, from_be_bytes}
 use Rattle.std.specs.Str.{bytes_eq, is_utf8}
 use Rattle.sha1.specs.Sha1.{sha1}
 use Rattle.seq_base.specs.Paths.{parts, first_bad}
@@ -10,7 +10,7 @@ use Rattle.seq_base.specs.declared.mode.Mode.TheVariants.{File, Exec, Link, Gitl
 use Rattle.index_file.specs.declared.entry.IndexEntry.{IndexEntry}
 use Rattle.index_file.specs.declared.fault.IndexFault.{IndexFault}
 use Rattle.index_file.specs.declared.fault.IndexFault.TheVariants.{Magic, Version, Count, Name, Order, Extension, Hash, Memory}
-use Rattle.index_file.specs.Spelling.{padding}
+use Rattle.index_file.specs.Spelling.{flags_in, size_of}
 use Rattle.index_file.specs.Fronts.{may_follow}
 
 infixl 10 ◌>>=◌
@@ -36,9 +36,6 @@ front_at n bytes = if nat_lt (length bytes) n then Err Count else Ok (take n byt
 abbrev pub number_at : List ℕ → Result (ℕ × List ℕ) IndexFault
 number_at bytes = if nat_lt (length bytes) 4 then Err Count else Ok (from_be_bytes w32 (take 4 bytes), drop 4 bytes)
 
-abbrev pub flags_at : List ℕ → Result (ℕ × List ℕ) IndexFault
-flags_at bytes = if nat_lt (length bytes) 2 then Err Count else Ok (from_be_bytes w16 (take 2 bytes), drop 2 bytes)
-
 abbrev pub mode_of : ℕ → Option Mode
 mode_of n = if n == 33188 then Some File else if n == 33261 then Some Exec else if n == 40960 then Some Link else if n == 57344 then Some Gitlink else None
 
@@ -57,18 +54,21 @@ entry_of number None id flags path nuls = Err (Name number)
 entry_of number (Some mode) id flags path nuls =
     if flags / 16384 % 2 == 0 && (are_zero nuls && is_path path) then Ok (record { path = path; stage = flags / 4096 % 4; mode = mode; id = id }) else Err (Name number)
 
--- entry of a number, once it is whole
+-- the bytes of an entry, and those behind them
+unfoldable pub whole_at : List ℕ → Result (List ℕ × List ℕ) IndexFault
+whole_at bytes = if nat_lt (length bytes) 62 then Err Count else front_at (size_of (flags_in bytes)) bytes
+
+-- the entry that bytes of the right number spell
+unfoldable pub entry_in : ℕ → List ℕ → Result IndexEntry IndexFault
+entry_in number text =
+    entry_of number (mode_of (from_be_bytes w32 (take 4 (drop 24 text)))) (take 20 (drop 40 text)) (flags_in text) (take (flags_in text % 4096) (drop 62 text)) (drop (62 + flags_in text % 4096) text)
+
+-- entry of a number
 unfoldable pub entry_at : ℕ → List ℕ → Result (IndexEntry × List ℕ) IndexFault
 entry_at number bytes = do
-  times ← front_at 24 bytes
-  mode ← number_at times.1
-  owner ← front_at 12 mode.1
-  id ← front_at 20 owner.1
-  flags ← flags_at id.1
-  path ← front_at (flags.0 % 4096) flags.1
-  nuls ← front_at (padding (62 + flags.0 % 4096)) path.1
-  entry ← entry_of number (mode_of mode.0) id.0 flags.0 path.0 nuls.0
-  Ok (entry, nuls.1)
+  whole ← whole_at bytes
+  entry ← entry_in number whole.0
+  Ok (entry, whole.1)
 
 -- the entries with one more, if it may stand behind them
 unfoldable pub appended : List IndexEntry → IndexEntry → Result (List IndexEntry) IndexFault

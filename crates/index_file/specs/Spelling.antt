@@ -1,7 +1,7 @@
 -- The bytes of an index file, version 2 (gitformat-index(5)).
-use Rattle.std.specs.Prelude.{◌≡◌, ℕ, ◌+◌, ◌-◌, ◌*◌, ◌%◌, ◌<◌, ◌≤◌, ◌⊎◌, ◌^◌, List, [], ◌∷◌, ◌++◌, length, slice_index, replicate, map, codes}
+use Rattle.std.specs.Prelude.{◌≡◌, ℕ, ◌+◌, ◌-◌, ◌*◌, ◌%◌, ◌<◌, ◌≤◌, ◌⊎◌, ◌^◌, List, [], ◌∷◌, ◌++◌, length, take, drop, slice_index, replicate, map, codes}
 use Rattle.std.specs.List.{AllByRecursion, flat_map}
-use Rattle.std.specs.Int.{w16, w32, to_be_bytes}
+use Rattle.std.specs.Int.{w16, w32, to_be_bytes, from_be_bytes}
 use Rattle.hex.specs.Hex.{IsBytes}
 use Rattle.sha1.specs.Sha1.{sha1}
 use Rattle.seq_base.specs.Modes.{mode_number}
@@ -39,6 +39,19 @@ flags assumed e = assumed * 32768 + e.stage * 4096 + length e.path
 
 abbrev pub row_text : Stat × IndexEntry → List ℕ
 row_text r = r.0.times ++ (to_be_bytes w32 (mode_number r.1.mode) ++ (r.0.owner ++ (r.1.id ++ (to_be_bytes w16 (flags r.0.assumed r.1) ++ (r.1.path ++ replicate (padding (62 + length r.1.path)) 0)))))
+
+-- the flags in the bytes of an entry, which stand behind its stat words and its id
+abbrev pub flags_in : List ℕ → ℕ
+flags_in bytes = from_be_bytes w16 (take 2 (drop 60 bytes))
+
+-- how many bytes an entry with these flags takes
+abbrev pub size_of : ℕ → ℕ
+size_of flags = 62 + flags % 4096 + padding (62 + flags % 4096)
+
+-- as many bytes as an entry with the flags in them takes
+pub record IsWhole (text : List ℕ) : Type 0 where
+  pub long : 62 ≤ length text
+  pub size : length text ≡ size_of (flags_in text)
 
 -- an extension that a reader may skip
 pub record Extension : Type 0 where

@@ -1,7 +1,8 @@
 //! Fields of fixed width, and what they mean.
 
-ghost use Rattle.std.specs.Prelude.{◌≡◌};
-ghost use Rattle.index_file.specs.Reading.{Gives, front_at, number_at, flags_at, mode_of, are_zero as zeros};
+ghost use Rattle.std.specs.Prelude.{◌≡◌, length};
+ghost use Rattle.std.specs.Int.{w32, from_be_bytes};
+ghost use Rattle.index_file.specs.Reading.{Gives, front_at, number_at, mode_of, are_zero as zeros};
 
 use crate::fault::IndexFault;
 use seq_base::Mode;
@@ -16,38 +17,20 @@ pub fn front_of(n: usize, bytes: &[u8]) -> Result<(&[u8], &[u8]), IndexFault>
     Ok(bytes.split_at(n))
 }
 
+/// The number that four bytes are, the high byte first.
+pub fn number_of(bytes: &[u8]) -> u32
+    requires { length bytes.now ≡ 4 }
+    ensures { result ≡ from_be_bytes w32 bytes.now }
+{
+    u32::from_be_bytes([bytes[0], bytes[1], bytes[2], bytes[3]])
+}
+
+/// A number of four bytes, and the bytes behind it.
 pub fn u32_of(bytes: &[u8]) -> Result<(u32, &[u8]), IndexFault>
     ensures { Gives (λ x. (x.0, x.1.now)) result (number_at bytes.now) }
 {
-    if bytes.len() < 4 {
-        return Err(IndexFault::Count);
-    }
-    let (front, rest) = bytes.split_at(4);
-    let number = u32::from_be_bytes([front[0], front[1], front[2], front[3]]);
-    Ok((number, rest))
-}
-
-pub fn u16_of(bytes: &[u8]) -> Result<(u16, &[u8]), IndexFault>
-    ensures { Gives (λ x. (x.0, x.1.now)) result (flags_at bytes.now) }
-{
-    if bytes.len() < 2 {
-        return Err(IndexFault::Count);
-    }
-    let (front, rest) = bytes.split_at(2);
-    let number = u16::from_be_bytes([front[0], front[1]]);
-    Ok((number, rest))
-}
-
-pub fn id_of(bytes: &[u8]) -> Result<([u8; 20], &[u8]), IndexFault>
-    ensures { Gives (λ x. (x.0, x.1.now)) result (front_at 20 bytes.now) }
-{
-    if bytes.len() < 20 {
-        return Err(IndexFault::Count);
-    }
-    let (front, rest) = bytes.split_at(20);
-    let mut id = [0; 20];
-    id.copy_from_slice(front);
-    Ok((id, rest))
+    let (front, rest) = front_of(4, bytes)?;
+    Ok((number_of(front), rest))
 }
 
 pub fn are_zero(bytes: &[u8]) -> bool

@@ -1,11 +1,13 @@
 //! Reading an index.
 
-ghost use Rattle.std.specs.Prelude.{◌≡◌, ◌≢◌, [], length};
-ghost use Rattle.index_file.specs.Reading.{Gives, entry_of as entry_with, entry_at, entries_at, header_at, extension_at, trailer_at, is_trailer, index_of};
+ghost use Rattle.std.specs.Prelude.{◌≡◌, ◌≢◌, ◌≤◌, [], IfOk, List, Ok, length};
+ghost use Rattle.index_file.specs.declared.entry.IndexEntry.{IndexEntry as EntryValue};
+ghost use Rattle.index_file.specs.Reading.{Gives, entry_of as entry_with, whole_at, entry_in, entry_at, entries_at, header_at, extension_at, trailer_at, is_trailer, index_of};
+ghost use Rattle.index_file.specs.Spelling.{flags_in, IsWhole, Spells};
 
 use crate::entry::IndexEntry;
 use crate::fault::IndexFault;
-use crate::fields::{are_zero, front_of, id_of, mode_numbered, u16_of, u32_of};
+use crate::fields::{are_zero, front_of, mode_numbered, number_of, u32_of};
 use crate::order::append;
 use seq_base::{Id, Mode, Path, PathFault};
 use sha1::Sha1;
@@ -59,20 +61,47 @@ fn entry_with_fields(alloc: Global, n: u64, mode: Option<Mode>, id: [u8; 20], fl
     }
 }
 
+/// The flags of an entry.
+fn flags_of(bytes: &[u8]) -> u16
+    requires { 62 ≤ length bytes.now }
+    ensures { result ≡ flags_in bytes.now }
+{
+    u16::from_be_bytes([bytes[60], bytes[61]])
+}
+
+/// The bytes of an entry, and those behind them.
+#[tactic(auto, unfolding(crate::specs::Reading::whole_at))]
+fn whole_of(bytes: &[u8]) -> Result<(&[u8], &[u8]), IndexFault>
+    ensures { Gives (λ x. (x.0.now, x.1.now)) result (whole_at bytes.now) }
+{
+    if bytes.len() < 62 {
+        return Err(IndexFault::Count);
+    }
+    let len = 62 + usize::from(flags_of(bytes) % 4096);
+    front_of(len + 8 - len % 8, bytes)
+}
+
+/// Entry n, from its bytes.
+#[tactic(auto, unfolding(crate::specs::Reading::entry_in))]
+fn entry_in_text(alloc: Global, n: u64, text: &[u8]) -> Result<IndexEntry, IndexFault>
+    requires { IsWhole text.now }
+    ensures { Gives (λ e. e) result (entry_in n text.now) }
+{
+    let mode = number_of(&text[24..28]);
+    let mut id = [0; 20];
+    id.copy_from_slice(&text[40..60]);
+    let flags = flags_of(text);
+    let end = 62 + usize::from(flags % 4096);
+    entry_with_fields(alloc, n, mode_numbered(mode), id, flags, &text[62..end], &text[end..])
+}
+
 /// Entry n, from 1.
 #[tactic(auto, unfolding(crate::specs::Reading::entry_at))]
 fn entry_of(alloc: Global, n: u64, bytes: &[u8]) -> Result<(IndexEntry, &[u8]), IndexFault>
     ensures { Gives (λ x. (x.0, x.1.now)) result (entry_at n bytes.now) }
 {
-    let (_, rest) = front_of(24, bytes)?;
-    let (mode, rest) = u32_of(rest)?;
-    let (_, rest) = front_of(12, rest)?;
-    let (id, rest) = id_of(rest)?;
-    let (flags, rest) = u16_of(rest)?;
-    let len = usize::from(flags % 4096);
-    let (path, rest) = front_of(len, rest)?;
-    let (padding, rest) = front_of(8 - (62 + len) % 8, rest)?;
-    let entry = entry_with_fields(alloc, n, mode_numbered(mode), id, flags, path, padding)?;
+    let (text, rest) = whole_of(bytes)?;
+    let entry = entry_in_text(alloc, n, text)?;
     Ok((entry, rest))
 }
 
@@ -152,6 +181,10 @@ fn read_index(alloc: Global, bytes: &[u8]) -> Result<Vec<IndexEntry>, IndexFault
 ///
 /// Stat words, the assume-valid bit and the content of extensions are not looked at. A trailer of zero is accepted.
 pub fn parse_index(alloc: Global, bytes: &[u8]) -> Result<Vec<IndexEntry>, IndexFault>
+    // What is read is spelled so.
+    ensures spelled { IfOk result (λ entries. Spells entries.items bytes.now) }
+    // What is spelled so is read, unless memory runs out.
+    ensures read { (es : List EntryValue) → Spells es bytes.now → Gives (λ v. v.items) result (Ok es) }
     // Which fault it is.
     ensures exact { Gives (λ v. v.items) result (index_of bytes.now) }
 {

@@ -3,7 +3,7 @@
 ghost use Rattle.std.specs.Prelude.{◌≡◌, ◌+◌, ◌<◌, ◌^◌, ◌++◌, length, replicate, OnOk, IfOk};
 ghost use Rattle.seq_base.specs.Paths.{IsPath};
 ghost use Rattle.index_file.specs.Entries.{IsStaged, IsIndex};
-ghost use Rattle.index_file.specs.Spelling.{entry_text, header_text, index_text as text_of_index};
+ghost use Rattle.index_file.specs.Spelling.{IsRow, Spells, entry_text, header_text, no_stat, index_text as text_of_index};
 
 use crate::entry::IndexEntry;
 use sha1::Sha1;
@@ -18,7 +18,8 @@ fn put_zeros(out: &mut Vec<u8>, n: usize) -> Result<(), AllocError>
 
 fn put_entry(out: &mut Vec<u8>, entry: &IndexEntry) -> Result<(), AllocError>
     requires { IsStaged entry.now }
-    ensures { OnOk result (out.new.items ≡ out.old.items ++ entry_text entry.now) }
+    ensures text { OnOk result (out.new.items ≡ out.old.items ++ entry_text entry.now) }
+    ensures row { OnOk result (IsRow (no_stat, entry.now)) }
 {
     let path = entry.path.bytes();
     put_zeros(out, 24)?;
@@ -44,6 +45,8 @@ fn put_header(out: &mut Vec<u8>, count: u32) -> Result<(), AllocError>
 pub fn index_text(alloc: Global, entries: &[IndexEntry]) -> Result<Vec<u8>, AllocError>
     requires { IsIndex entries.now }
     ensures text { IfOk result (λ text. text.items ≡ text_of_index entries.now) }
+    // So reading gives the entries back.
+    ensures spells { IfOk result (λ text. Spells entries.now text.items) }
 {
     let mut out = Vec::new(alloc);
     put_header(&mut out, entries.len() as u32)?;
