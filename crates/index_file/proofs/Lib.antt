@@ -7,3 +7,4 @@ pub mod Written
 pub mod Rows
 pub mod Sequences
 pub mod Whole
+pub mod FaultLaws

@@ -147,7 +147,7 @@ capital_from b e = grind (arith, nat_tests)
 capital_again : (b : ℕ) → 65 ≤ b → b ≤ 90 → not (is_capital b) ≡ false
 capital_again b p q = grind (arith, nat_tests)
 
-first_byte : (bytes : List ℕ) → slice_index (take 4 bytes) 0 ≡ slice_index bytes 0
+pub first_byte : (bytes : List ℕ) → slice_index (take 4 bytes) 0 ≡ slice_index bytes 0
 first_byte [] = refl
 first_byte (b ∷ bytes) = refl
 

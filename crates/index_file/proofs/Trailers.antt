@@ -44,7 +44,7 @@ ended : (t : Bool) (bytes : List ℕ) (x y : Result (List ℕ) IndexFault) → (
 ended true bytes x y h = refl
 ended false bytes x y h = h refl
 
-no_more : (bytes : List ℕ) → length bytes ≤ 0 → extension_at bytes ≡ Err Count
+pub no_more : (bytes : List ℕ) → length bytes ≤ 0 → extension_at bytes ≡ Err Count
 unfolding extension_at
 no_more bytes le = rw (is_less (length bytes) le) refl
   where

@@ -2,3 +2,4 @@ pub mod Entries
 pub mod Spelling
 pub mod Fronts
 pub mod Reading
+pub mod Faults

@@ -58,10 +58,14 @@ pub record Extension : Type 0 where
   pub tag : List ℕ
   pub content : List ℕ
 
+-- a letter from A to Z
+abbrev pub IsCapital : ℕ → Type 0
+IsCapital b = (65 ≤ b) × (b ≤ 90)
+
 -- its tag begins with a capital letter
 pub record IsExtension (x : Extension) : Type 0 where
   pub tag : length x.tag ≡ 4
-  pub capital : (65 ≤ slice_index x.tag 0) × (slice_index x.tag 0 ≤ 90)
+  pub capital : IsCapital (slice_index x.tag 0)
   pub content : length x.content < 2 ^ 32
 
 abbrev pub extension_text : Extension → List ℕ
