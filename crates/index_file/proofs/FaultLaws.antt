@@ -27,7 +27,7 @@ use Rattle.index_file.proofs.Whole.{number_takes, number_again, same_bytes, head
 
 -- ---- steps that fail
 
-abbrev failed : {A : Type 0} → IndexFault → Result A IndexFault
+abbrev pub failed : {A : Type 0} → IndexFault → Result A IndexFault
 failed f = Err f
 
 fault_is : {A : Type 0} (d f : IndexFault) → failed {A = A} d ≡ failed f → d ≡ f
@@ -51,22 +51,22 @@ test_err false x d f e = (refl, cc)
 is_less : (m n : ℕ) → nat_lt m n ≡ true → m < n
 is_less m n e = grind (arith, nat_tests)
 
-less_is : (m n : ℕ) → m < n → nat_lt m n ≡ true
+pub less_is : (m n : ℕ) → m < n → nat_lt m n ≡ true
 less_is m n lt = grind (arith, nat_tests)
 
 not_less : (m n : ℕ) → nat_lt m n ≡ false → n ≤ m
 not_less m n e = grind (arith, nat_tests)
 
-is_not_less : (m n : ℕ) → n ≤ m → nat_lt m n ≡ false
+pub is_not_less : (m n : ℕ) → n ≤ m → nat_lt m n ≡ false
 is_not_less m n le = grind (arith, nat_tests)
 
 other_number : (m n : ℕ) → (m == n) ≡ false → m ≡ n → ⊥
 other_number m n e h = grind (arith, nat_tests)
 
-other_test : (m n : ℕ) → (m ≡ n → ⊥) → (m == n) ≡ false
+pub other_test : (m n : ℕ) → (m ≡ n → ⊥) → (m == n) ≡ false
 other_test m n h = grind (arith, nat_tests)
 
-other_bytes : (xs ys : List ℕ) (t : Bool) → bytes_eq xs ys ≡ t → (xs ≡ ys → ⊥) → t ≡ false
+pub other_bytes : (xs ys : List ℕ) (t : Bool) → bytes_eq xs ys ≡ t → (xs ≡ ys → ⊥) → t ≡ false
 other_bytes xs ys true e h = absurd (h (same_bytes xs ys e))
 other_bytes xs ys false e h = refl
 
@@ -80,7 +80,7 @@ number_err bytes f e =
     let g = guard_err (nat_lt (length bytes) 4) fault.Count (from_be_bytes w32 (take 4 bytes), drop 4 bytes) f e in
     (is_less (length bytes) 4 g.0, g.1)
 
-number_fails : (bytes : List ℕ) → length bytes < 4 → number_at bytes ≡ failed fault.Count
+pub number_fails : (bytes : List ℕ) → length bytes < 4 → number_at bytes ≡ failed fault.Count
 number_fails bytes lt = ap (λ (b : Bool). cond b (Err fault.Count) (Ok (from_be_bytes w32 (take 4 bytes), drop 4 bytes))) (less_is (length bytes) 4 lt)
 
 abbrev FaultAt : List ℕ → IndexFault → Type 0
@@ -127,7 +127,7 @@ two_err true b d x f e = cc
 two_err false true d x f e = cc
 two_err false false d x f e = cc
 
-whole_err : (bytes : List ℕ) (f : IndexFault) → whole_at bytes ≡ failed f → f ≡ fault.Count
+pub whole_err : (bytes : List ℕ) (f : IndexFault) → whole_at bytes ≡ failed f → f ≡ fault.Count
 unfolding whole_at
 whole_err bytes f e = two_err (nat_lt (length bytes) 62) (nat_lt (length bytes) (size_of (flags_in bytes))) fault.Count (take (size_of (flags_in bytes)) bytes, drop (size_of (flags_in bytes)) bytes) f e
 
@@ -136,7 +136,7 @@ unfolding entry_of
 fields_err n None i bits p nuls f e = cc
 fields_err n (Some mode) i bits p nuls f e = (test_err ((bits / 16384 % 2 == 0) && (are_zero nuls && is_path p)) (record { path = p; stage = bits / 4096 % 4; mode = mode; id = i }) (fault.Name n) f e).1
 
-in_err : (n : ℕ) (text : List ℕ) (f : IndexFault) → entry_in n text ≡ failed f → f ≡ fault.Name n
+pub in_err : (n : ℕ) (text : List ℕ) (f : IndexFault) → entry_in n text ≡ failed f → f ≡ fault.Name n
 unfolding entry_in
 in_err n text f e = fields_err n _ _ _ _ _ f e
 
@@ -217,7 +217,7 @@ entries_err (suc n) es bytes f h o e = elim (bind_err (entry_at (length es + 1) 
 false_is_not : (b : Bool) → b ≡ false → b ≡ true → ⊥
 false_is_not b p q = cc
 
-map_push : (rows : List (Stat × IndexEntry)) (r : Stat × IndexEntry) → map (λ (r : Stat × IndexEntry). r.1) (rows ++ r ∷ []) ≡ entries_of rows ++ r.1 ∷ []
+pub map_push : (rows : List (Stat × IndexEntry)) (r : Stat × IndexEntry) → map (λ (r : Stat × IndexEntry). r.1) (rows ++ r ∷ []) ≡ entries_of rows ++ r.1 ∷ []
 map_push [] r = refl
 map_push (s ∷ rows) r = ap (λ (x : List IndexEntry). s.1 ∷ x) (map_push rows r)
 
@@ -250,20 +250,20 @@ row_fault count bytes rest f header few r =
 
 -- ---- extensions and the trailer
 
-capital_is : (b : ℕ) → not (is_capital b) ≡ false → IsCapital b
+pub capital_is : (b : ℕ) → not (is_capital b) ≡ false → IsCapital b
 capital_is b e = grind (arith, nat_tests)
 
 not_capital : (b : ℕ) → not (is_capital b) ≡ true → IsCapital b → ⊥
 not_capital b e h = let p = h.0 in let q = h.1 in grind (arith, nat_tests)
 
-capital_passes : (b : ℕ) → IsCapital b → not (is_capital b) ≡ false
+pub capital_passes : (b : ℕ) → IsCapital b → not (is_capital b) ≡ false
 capital_passes b h = let p = h.0 in let q = h.1 in grind (arith, nat_tests)
 
 small_by : (a b : Bool) → (a ≡ true → b ≡ true → ⊥) → a ≡ true → b ≡ false
 small_by a true h p = absurd (h p refl)
 small_by a false h p = refl
 
-abbrev size_in : List ℕ → ℕ
+abbrev pub size_in : List ℕ → ℕ
 size_in left = from_be_bytes w32 (take 4 (drop 4 left))
 
 three_err : (a b c : Bool) (x y z : IndexFault) (v : List ℕ) (f : IndexFault) → cond a (Err x) (cond b (Err y) (cond c (Err z) (Ok v))) ≡ failed f

@@ -8,3 +8,4 @@ pub mod Rows
 pub mod Sequences
 pub mod Whole
 pub mod FaultLaws
+pub mod FaultsRead

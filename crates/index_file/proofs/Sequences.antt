@@ -44,6 +44,9 @@ pub record TakesRow (bytes : List ℕ) (e : IndexEntry) (rest : List ℕ) : Type
   pub is_row : IsRow (stat, e)
   pub rest_bytes : IsBytes rest
 
+row_along : (bytes : List ℕ) (p q : IndexEntry × List ℕ) → p ≡ q → TakesRow bytes p.0 p.1 → TakesRow bytes q.0 q.1
+row_along bytes p q e h = let P : IndexEntry × List ℕ → Type 0 = λ x. TakesRow bytes x.0 x.1 in subst P e h
+
 pub entry_takes : (n : ℕ) (bytes : List ℕ) (e : IndexEntry) (rest : List ℕ) → IsBytes bytes → entry_at n bytes ≡ Ok (e, rest) → TakesRow bytes e rest
 unfolding entry_at
 entry_takes n bytes e rest h eq =
@@ -53,8 +56,7 @@ entry_takes n bytes e rest h eq =
     let parts = bytes_left bytes a.0.0 a.0.1 h w.parts in
     let t = row_taken n a.0.0 b.0 w.whole parts.0 b.1 in
     let last : (b.0, a.0.1) ≡ (e, rest) = ok_is (b.0, a.0.1) (e, rest) b.2 in
-    let P : IndexEntry × List ℕ → Type 0 = λ p. TakesRow bytes p.0 p.1 in
-    subst P last (record { stat = stat_of a.0.0; text = w.parts ∙ ap (λ (x : List ℕ). x ++ a.0.1) t.0; is_row = t.1; rest_bytes = parts.1 })
+    row_along bytes (b.0, a.0.1) (e, rest) last (record { stat = stat_of a.0.0; text = w.parts ∙ ap (λ (x : List ℕ). x ++ a.0.1) t.0; is_row = t.1; rest_bytes = parts.1 })
 
 pub entry_again : (n : ℕ) (r : Stat × IndexEntry) (rest : List ℕ) → IsRow r → entry_at n (row_text r ++ rest) ≡ Ok (r.1, rest)
 unfolding entry_at
@@ -187,7 +189,7 @@ extension_takes bytes rest h eq =
     regroup : (a b c d : List ℕ) → a ++ (b ++ (c ++ d)) ≡ (a ++ (b ++ c)) ++ d
     regroup a b c d = simp append_assoc
 
-first_of_append : (xs ys : List ℕ) → 0 < length xs → slice_index (xs ++ ys) 0 ≡ slice_index xs 0
+pub first_of_append : (xs ys : List ℕ) → 0 < length xs → slice_index (xs ++ ys) 0 ≡ slice_index xs 0
 first_of_append [] ys lt = absurd (omega arith)
 first_of_append (x ∷ xs) ys lt = refl
 

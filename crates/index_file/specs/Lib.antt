@@ -3,3 +3,4 @@ pub mod Spelling
 pub mod Fronts
 pub mod Reading
 pub mod Faults
+pub mod Index

@@ -1,7 +1,9 @@
 //! Reading an index.
 
-ghost use Rattle.std.specs.Prelude.{◌≡◌, ◌≢◌, ◌≤◌, [], IfOk, List, Ok, length};
+ghost use Rattle.std.specs.Prelude.{◌≡◌, ◌≢◌, ◌≤◌, [], Err, IfErr, IfOk, List, Ok, length};
 ghost use Rattle.index_file.specs.declared.entry.IndexEntry.{IndexEntry as EntryValue};
+ghost use Rattle.index_file.specs.declared.fault.IndexFault.{IndexFault as Fault};
+ghost use Rattle.index_file.specs.Faults.{IsFirstFault, IsFirstFaultOrMemory};
 ghost use Rattle.index_file.specs.Reading.{Gives, entry_of as entry_with, whole_at, entry_in, entry_at, entries_at, header_at, extension_at, trailer_at, is_trailer, index_of};
 ghost use Rattle.index_file.specs.Spelling.{flags_in, IsWhole, Spells};
 
@@ -185,7 +187,10 @@ pub fn parse_index(alloc: Global, bytes: &[u8]) -> Result<Vec<IndexEntry>, Index
     ensures spelled { IfOk result (λ entries. Spells entries.items bytes.now) }
     // What is spelled so is read, unless memory runs out.
     ensures read { (es : List EntryValue) → Spells es bytes.now → Gives (λ v. v.items) result (Ok es) }
-    // Which fault it is.
+    // The fault is the first, and the first fault is answered, unless memory runs out.
+    ensures fault { IfErr result (λ fault. IsFirstFaultOrMemory bytes.now fault) }
+    ensures refused { (fault : Fault) → IsFirstFault bytes.now fault → Gives (λ v. v.items) result (Err fault) }
+    // Both in one: what reading from the left gives.
     ensures exact { Gives (λ v. v.items) result (index_of bytes.now) }
 {
     read_index(alloc, bytes)
