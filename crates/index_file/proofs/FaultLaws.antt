@@ -157,14 +157,14 @@ record BadRow (n : ℕ) (bytes : List ℕ) (f : IndexFault) : Type 0 where
 entry_err : (n : ℕ) (bytes : List ℕ) (f : IndexFault) → entry_at n bytes ≡ failed f → ((f ≡ fault.Count) × NoWhole bytes) ⊎ BadRow n bytes f
 unfolding entry_at
 entry_err n bytes f e = elim (bind_err (whole_at bytes) (λ whole. entry_in n whole.0 >>= λ entry. Ok (entry, whole.1)) f e) [
-      | inl fails ↦ inl (whole_err bytes f fails, λ text rest parts whole. not_both (whole_at bytes) (text, rest) f (ap whole_at parts ∙ whole_again text rest whole) fails)
-      | inr x ↦
-        let w = whole_takes bytes x.0.0 x.0.1 x.1 in
-        elim (bind_err (entry_in n x.0.0) (λ entry. Ok (entry, x.0.1)) f x.2) [
-          | inl fails ↦ inr (record { name = in_err n x.0.0 f fails; text = x.0.0; rest = x.0.1; parts = w.parts; whole = w.whole; no_row = λ r row is. not_both (entry_in n x.0.0) r.1 f (ap (entry_in n) is ∙ row_again n r row) fails })
-          | inr y ↦ absurd (not_both {A = IndexEntry × List ℕ} (Ok (y.0, x.0.1)) (y.0, x.0.1) f refl y.2)
-        ]
-    ]
+  | inl fails ↦ inl (whole_err bytes f fails, λ text rest parts whole. not_both (whole_at bytes) (text, rest) f (ap whole_at parts ∙ whole_again text rest whole) fails)
+  | inr x ↦
+      let w = whole_takes bytes x.0.0 x.0.1 x.1 in
+      elim (bind_err (entry_in n x.0.0) (λ entry. Ok (entry, x.0.1)) f x.2) [
+        | inl fails ↦ inr (record { name = in_err n x.0.0 f fails; text = x.0.0; rest = x.0.1; parts = w.parts; whole = w.whole; no_row = λ r row is. not_both (entry_in n x.0.0) r.1 f (ap (entry_in n) is ∙ row_again n r row) fails })
+        | inr y ↦ absurd (not_both {A = IndexEntry × List ℕ} (Ok (y.0, x.0.1)) (y.0, x.0.1) f refl y.2)
+      ]
+]
 
 appended_err : (es : List IndexEntry) (e : IndexEntry) (f : IndexFault) → appended es e ≡ failed f → (f ≡ fault.Order (length es + 1)) × (may_follow es e ≡ false)
 unfolding appended
@@ -191,28 +191,28 @@ entries_err : (n : ℕ) (es : List IndexEntry) (bytes : List ℕ) (f : IndexFaul
 unfolding entries_at
 entries_err zero es bytes f h o e = absurd (not_both {A = List IndexEntry × List ℕ} (Ok (es, bytes)) (es, bytes) f refl e)
 entries_err (suc n) es bytes f h o e = elim (bind_err (entry_at (length es + 1) bytes) (λ entry. appended es entry.0 >>= λ more. entries_at n more entry.1) f e) [
-      | inl fails ↦ fails_at_once n es bytes f h o (inl fails)
-      | inr x ↦ elim (bind_err (appended es x.0.0) (λ more. entries_at n more x.0.1) f x.2) [
-        | inl fails ↦ fails_at_once n es bytes f h o (inr (x.0, x.1, fails))
-        | inr more ↦
-          let row = entry_takes (length es + 1) bytes x.0.0 x.0.1 h x.1 in
-          let follows = appended_is es x.0.0 more.0 more.1 in
-          let P : List IndexEntry → Type 0 = λ es. IsInOrder es in
-          let r = entries_err n more.0 x.0.1 f row.rest_bytes (subst P follows.1 (in_order_push es x.0.0 o follows.0)) more.2 in
-          record {
-            rows = (row.stat, x.0.0) ∷ r.rows;
-            left = r.left;
-            text = row.text ∙ ap (λ (t : List ℕ). row_text (row.stat, x.0.0) ++ t) r.text ∙ sym (append_assoc (row_text (row.stat, x.0.0)) (flat_map row_text r.rows) r.left);
-            are_rows = (row.is_row, r.are_rows);
-            more = omega (arith, r.more);
-            before = r.before;
-            entries = r.entries ∙ ap (λ (t : List IndexEntry). t ++ entries_of r.rows) (sym follows.1) ∙ append_assoc es (x.0.0 ∷ []) (entries_of r.rows);
-            in_order = r.in_order;
-            left_bytes = r.left_bytes;
-            why = r.why;
-          }
-      ]
-    ]
+  | inl fails ↦ fails_at_once n es bytes f h o (inl fails)
+  | inr x ↦ elim (bind_err (appended es x.0.0) (λ more. entries_at n more x.0.1) f x.2) [
+    | inl fails ↦ fails_at_once n es bytes f h o (inr (x.0, x.1, fails))
+    | inr more ↦
+        let row = entry_takes (length es + 1) bytes x.0.0 x.0.1 h x.1 in
+        let follows = appended_is es x.0.0 more.0 more.1 in
+        let P : List IndexEntry → Type 0 = λ es. IsInOrder es in
+        let r = entries_err n more.0 x.0.1 f row.rest_bytes (subst P follows.1 (in_order_push es x.0.0 o follows.0)) more.2 in
+        record {
+          rows = (row.stat, x.0.0) ∷ r.rows;
+          left = r.left;
+          text = row.text ∙ ap (λ (t : List ℕ). row_text (row.stat, x.0.0) ++ t) r.text ∙ sym (append_assoc (row_text (row.stat, x.0.0)) (flat_map row_text r.rows) r.left);
+          are_rows = (row.is_row, r.are_rows);
+          more = omega (arith, r.more);
+          before = r.before;
+          entries = r.entries ∙ ap (λ (t : List IndexEntry). t ++ entries_of r.rows) (sym follows.1) ∙ append_assoc es (x.0.0 ∷ []) (entries_of r.rows);
+          in_order = r.in_order;
+          left_bytes = r.left_bytes;
+          why = r.why;
+        }
+  ]
+]
 
 false_is_not : (b : Bool) → b ≡ false → b ≡ true → ⊥
 false_is_not b p q = cc
@@ -237,15 +237,21 @@ row_fault count bytes rest f header few r =
       | inl fails ↦ elim (entry_err (length r.before + 1) r.left f fails) [
         | inl cut ↦ subst P (sym cut.0) (inr (inl (length r.before + 1, r.rows, r.left, at, cut.1)))
         | inr bad ↦
-          let S : List ℕ → Type 0 = λ left. StandsAtRow bytes (length r.before + 1) r.rows left in
-          subst P (sym bad.name) (r.rows, bad.text, bad.rest, subst S bad.parts at, bad.whole, bad.no_row)
+            let S : List ℕ → Type 0 = λ left. StandsAtRow bytes (length r.before + 1) r.rows left in
+            subst P (sym bad.name) (r.rows, bad.text, bad.rest, subst S bad.parts at, bad.whole, bad.no_row)
       ]
       | inr x ↦
-        let t = entry_takes (length r.before + 1) r.left x.0.0 x.0.1 r.left_bytes x.1 in
-        let no = appended_err r.before x.0.0 f x.2 in
-        let S : List ℕ → Type 0 = λ left. StandsAtRow bytes (length r.before + 1) r.rows left in
-        subst P (sym no.0) (r.rows, (t.stat, x.0.0), x.0.1, subst S t.text at, t.is_row,
-            λ o. false_is_not (may_follow r.before x.0.0) no.1 (may_from r.before x.0.0 [] (subst O (map_push r.rows (t.stat, x.0.0) ∙ ap (λ (es : List IndexEntry). es ++ x.0.0 ∷ []) (sym r.entries)) o)))
+          let t = entry_takes (length r.before + 1) r.left x.0.0 x.0.1 r.left_bytes x.1 in
+          let no = appended_err r.before x.0.0 f x.2 in
+          let S : List ℕ → Type 0 = λ left. StandsAtRow bytes (length r.before + 1) r.rows left in
+          subst P (sym no.0) (
+            r.rows,
+            (t.stat, x.0.0),
+            x.0.1,
+            subst S t.text at,
+            t.is_row,
+            λ o. false_is_not (may_follow r.before x.0.0) no.1 (may_from r.before x.0.0 [] (subst O (map_push r.rows (t.stat, x.0.0) ∙ ap (λ (es : List IndexEntry). es ++ x.0.0 ∷ []) (sym r.entries)) o)),
+          )
     ]
 
 -- ---- extensions and the trailer
@@ -283,12 +289,12 @@ ExtensionFault left f = ((length left < 28) × (f ≡ fault.Count)) ⊎ (((28 �
 extension_err : (left : List ℕ) (f : IndexFault) → extension_at left ≡ failed f → ExtensionFault left f
 unfolding extension_at
 extension_err left f e = elim (three_err (nat_lt (length left) 28) (not (is_capital (slice_index left 0))) (nat_lt (length left) (28 + size_in left)) fault.Count (fault.Extension (take 4 left)) fault.Count (drop (8 + size_in left) left) f e) [
-      | inl a ↦ inl (is_less (length left) 28 a.0, a.1)
-      | inr b ↦ elim b [
-        | inl c ↦ inr (inl (not_less (length left) 28 c.0, not_capital (slice_index left 0) c.1, c.2))
-        | inr c ↦ inr (inr (capital_is (slice_index left 0) c.0, is_less (length left) (28 + size_in left) c.1, c.2))
-      ]
-    ]
+  | inl a ↦ inl (is_less (length left) 28 a.0, a.1)
+  | inr b ↦ elim b [
+    | inl c ↦ inr (inl (not_less (length left) 28 c.0, not_capital (slice_index left 0) c.1, c.2))
+    | inr c ↦ inr (inr (capital_is (slice_index left 0) c.0, is_less (length left) (28 + size_in left) c.1, c.2))
+  ]
+]
 
 record FailsBehind (bytes : List ℕ) (f : IndexFault) : Type 0 where
   extensions : List Extension
@@ -303,20 +309,20 @@ trailer_err_by : (n : ℕ) (bytes : List ℕ) (f : IndexFault) → IsBytes bytes
     → (t : Bool) → (length bytes == 20) ≡ t → cond t (Ok bytes) (extension_at bytes >>= λ rest. trailer_at n rest) ≡ failed f → FailsBehind bytes f
 trailer_err_by n bytes f h go true same e = absurd (not_both {A = List ℕ} (Ok bytes) bytes f refl e)
 trailer_err_by n bytes f h go false same e = elim (bind_err (extension_at bytes) (λ rest. trailer_at n rest) f e) [
-      | inl fails ↦ record { extensions = []; left = bytes; text = refl; are_extensions = tt; other = other_number (length bytes) 20 same; why = fails; start = λ _. refl }
-      | inr x ↦
-        let one = extension_takes bytes x.0 h x.1 in
-        let r = go x.0 x.1 one.rest_bytes x.2 in
-        record {
-          extensions = one.extension ∷ r.extensions;
-          left = r.left;
-          text = one.text ∙ ap (λ (t : List ℕ). extension_text one.extension ++ t) r.text ∙ sym (append_assoc (extension_text one.extension) (flat_map extension_text r.extensions) r.left);
-          are_extensions = (one.is_extension, r.are_extensions);
-          other = r.other;
-          why = r.why;
-          start = λ lt. absurd (omega (arith, one.long, ap length (r.start lt), lt));
-        }
-    ]
+  | inl fails ↦ record { extensions = []; left = bytes; text = refl; are_extensions = tt; other = other_number (length bytes) 20 same; why = fails; start = λ _. refl }
+  | inr x ↦
+      let one = extension_takes bytes x.0 h x.1 in
+      let r = go x.0 x.1 one.rest_bytes x.2 in
+      record {
+        extensions = one.extension ∷ r.extensions;
+        left = r.left;
+        text = one.text ∙ ap (λ (t : List ℕ). extension_text one.extension ++ t) r.text ∙ sym (append_assoc (extension_text one.extension) (flat_map extension_text r.extensions) r.left);
+        are_extensions = (one.is_extension, r.are_extensions);
+        other = r.other;
+        why = r.why;
+        start = λ lt. absurd (omega (arith, one.long, ap length (r.start lt), lt));
+      }
+]
 
 trailer_err : (n : ℕ) (bytes : List ℕ) (f : IndexFault) → length bytes ≤ n → IsBytes bytes → trailer_at n bytes ≡ failed f → FailsBehind bytes f
 unfolding trailer_at
@@ -344,18 +350,18 @@ tail_fault bytes rows tail f at r =
         ]
       ]
       | inr long ↦
-        let le : 20 ≤ length left = omega (arith, long) in
-        elim why [
-        | inl a ↦ subst P (sym a.1) (inr (inr (inr (rows, r.extensions, left, behind le, long, inl a.0))))
-        | inr b ↦ elim b [
-          | inl c ↦
-            let parts : left ≡ take 4 left ++ drop 4 left = sym (take-append-drop 4 left) in
-            let Q : List ℕ → Type 0 = λ t. StandsBehind bytes rows r.extensions t in
-            let byte : slice_index (take 4 left) 0 ≡ slice_index left 0 = first_byte left in
-            subst P (sym c.2) (rows, r.extensions, drop 4 left, subst Q parts (behind le), omega (arith, length-take 4 left, c.0), omega (arith, length-drop 4 left, c.0), λ cap. let C : ℕ → Type 0 = λ n. IsCapital n in c.1 (subst C byte cap))
-          | inr c ↦ subst P (sym c.2) (inr (inr (inr (rows, r.extensions, left, behind le, long, inr (c.0, c.1)))))
-        ]
-      ]
+          let le : 20 ≤ length left = omega (arith, long) in
+          elim why [
+            | inl a ↦ subst P (sym a.1) (inr (inr (inr (rows, r.extensions, left, behind le, long, inl a.0))))
+            | inr b ↦ elim b [
+              | inl c ↦
+                  let parts : left ≡ take 4 left ++ drop 4 left = sym (take-append-drop 4 left) in
+                  let Q : List ℕ → Type 0 = λ t. StandsBehind bytes rows r.extensions t in
+                  let byte : slice_index (take 4 left) 0 ≡ slice_index left 0 = first_byte left in
+                  subst P (sym c.2) (rows, r.extensions, drop 4 left, subst Q parts (behind le), omega (arith, length-take 4 left, c.0), omega (arith, length-drop 4 left, c.0), λ cap. let C : ℕ → Type 0 = λ n. IsCapital n in c.1 (subst C byte cap))
+              | inr c ↦ subst P (sym c.2) (inr (inr (inr (rows, r.extensions, left, behind le, long, inr (c.0, c.1)))))
+            ]
+          ]
     ]
 
 abbrev last_step : List ℕ → List IndexEntry → List ℕ → Result (List IndexEntry) IndexFault
@@ -369,30 +375,36 @@ index_err bytes f h e =
     elim (bind_err (header_at bytes) (λ count. entries_at count.0 [] count.1 >>= λ entries. trailer_at (length entries.1) entries.1 >>= λ trailer. last_step body entries.0 trailer) f e) [
       | inl fails ↦ header_err bytes f h fails
       | inr a ↦
-        let header = header_takes bytes a.0.0 a.0.1 h a.1 in
-        let rest_bytes = (bytes_left bytes (header_text a.0.0) a.0.1 h header.0).1 in
-        elim (bind_err (entries_at a.0.0 [] a.0.1) (λ entries. trailer_at (length entries.1) entries.1 >>= λ trailer. last_step body entries.0 trailer) f a.2) [
-          | inl fails ↦ row_fault a.0.0 bytes a.0.1 f header.0 header.1 (entries_err a.0.0 [] a.0.1 f rest_bytes tt fails)
-          | inr b ↦
-            let rows = entries_take a.0.0 [] a.0.1 b.0.0 b.0.1 rest_bytes b.1 in
-            let O : List IndexEntry → Type 0 = λ es. IsInOrder es in
-            let number = rows.number in
-            let at : Stands bytes (length rows.rows) rows.rows b.0.1 = record {
-              text = header.0 ∙ ap (λ (x : List ℕ). header_text a.0.0 ++ x) rows.text ∙ ap (λ (k : ℕ). header_text k ++ (flat_map row_text rows.rows ++ b.0.1)) (sym number);
-              few = omega (arith, number, header.1);
-              are_rows = rows.are_rows;
-              in_order = subst O rows.entries (rows.in_order tt);
-            } in
-            elim (bind_err (trailer_at (length b.0.1) b.0.1) (λ trailer. last_step body b.0.0 trailer) f b.2) [
-              | inl fails ↦ tail_fault bytes rows.rows b.0.1 f at (trailer_err (length b.0.1) b.0.1 f (omega arith) rows.rest_bytes fails)
-              | inr c ↦
-                let tail = trailer_takes (length b.0.1) b.0.1 c.0 rows.rest_bytes c.1 in
-                let no = test_err (is_trailer body c.0) b.0.0 fault.Hash f c.2 in
-                let S : List ℕ → Type 0 = λ t. Stands bytes (length rows.rows) rows.rows t in
-                let text = body_of a.0.0 rows.rows tail.extensions bytes a.0.1 b.0.1 c.0 number header.0 rows.text tail.text in
-                let front = front_of_body (body_text rows.rows tail.extensions) c.0 bytes tail.twenty text in
-                subst P (sym no.1) (rows.rows, tail.extensions, c.0, record { stands = subst S tail.text at; are_extensions = tail.are_extensions; long = omega (arith, tail.twenty) }, tail.twenty,
-                    λ is. false_is_not (is_trailer body c.0) no.0 (ap (λ (x : List ℕ). is_trailer x c.0) front ∙ trailer_passes (body_text rows.rows tail.extensions) c.0 is))
-            ]
-        ]
+          let header = header_takes bytes a.0.0 a.0.1 h a.1 in
+          let rest_bytes = (bytes_left bytes (header_text a.0.0) a.0.1 h header.0).1 in
+          elim (bind_err (entries_at a.0.0 [] a.0.1) (λ entries. trailer_at (length entries.1) entries.1 >>= λ trailer. last_step body entries.0 trailer) f a.2) [
+            | inl fails ↦ row_fault a.0.0 bytes a.0.1 f header.0 header.1 (entries_err a.0.0 [] a.0.1 f rest_bytes tt fails)
+            | inr b ↦
+                let rows = entries_take a.0.0 [] a.0.1 b.0.0 b.0.1 rest_bytes b.1 in
+                let O : List IndexEntry → Type 0 = λ es. IsInOrder es in
+                let number = rows.number in
+                let at : Stands bytes (length rows.rows) rows.rows b.0.1 = record {
+                  text = header.0 ∙ ap (λ (x : List ℕ). header_text a.0.0 ++ x) rows.text ∙ ap (λ (k : ℕ). header_text k ++ (flat_map row_text rows.rows ++ b.0.1)) (sym number);
+                  few = omega (arith, number, header.1);
+                  are_rows = rows.are_rows;
+                  in_order = subst O rows.entries (rows.in_order tt);
+                } in
+                elim (bind_err (trailer_at (length b.0.1) b.0.1) (λ trailer. last_step body b.0.0 trailer) f b.2) [
+                  | inl fails ↦ tail_fault bytes rows.rows b.0.1 f at (trailer_err (length b.0.1) b.0.1 f (omega arith) rows.rest_bytes fails)
+                  | inr c ↦
+                      let tail = trailer_takes (length b.0.1) b.0.1 c.0 rows.rest_bytes c.1 in
+                      let no = test_err (is_trailer body c.0) b.0.0 fault.Hash f c.2 in
+                      let S : List ℕ → Type 0 = λ t. Stands bytes (length rows.rows) rows.rows t in
+                      let text = body_of a.0.0 rows.rows tail.extensions bytes a.0.1 b.0.1 c.0 number header.0 rows.text tail.text in
+                      let front = front_of_body (body_text rows.rows tail.extensions) c.0 bytes tail.twenty text in
+                      subst P (sym no.1) (
+                        rows.rows,
+                        tail.extensions,
+                        c.0,
+                        record { stands = subst S tail.text at; are_extensions = tail.are_extensions; long = omega (arith, tail.twenty) },
+                        tail.twenty,
+                        λ is. false_is_not (is_trailer body c.0) no.0 (ap (λ (x : List ℕ). is_trailer x c.0) front ∙ trailer_passes (body_text rows.rows tail.extensions) c.0 is),
+                      )
+                ]
+          ]
     ]

@@ -46,12 +46,12 @@ version_fails bytes left n text lt other =
 cut_header_fails : (bytes left : List ℕ) → bytes ≡ codes "DIRC" ++ left → (length left < 4) ⊎ ((take 4 left ≡ to_be_bytes w32 2) × (length left < 8)) → header_at bytes ≡ failed fault.Count
 cut_header_fails bytes left text (inl short) = ap header_at text ∙ short_header left fault.Count (number_fails left short)
 cut_header_fails bytes left text (inr second) = elim (cases_lt (length left) 4) [
-      | inl short ↦ ap header_at text ∙ short_header left fault.Count (number_fails left short)
-      | inr long ↦
-        let parts : left ≡ to_be_bytes w32 2 ++ drop 4 left = sym (take-append-drop 4 left) ∙ ap (λ (x : List ℕ). x ++ drop 4 left) second.0 in
-        let lt = second.1 in
-        ap header_at text ∙ header_by left (drop 4 left) 2 (ap number_at parts ∙ number_again 2 (drop 4 left) (omega arith)) ∙ number_fails (drop 4 left) (omega (arith, length-drop 4 left))
-    ]
+  | inl short ↦ ap header_at text ∙ short_header left fault.Count (number_fails left short)
+  | inr long ↦
+      let parts : left ≡ to_be_bytes w32 2 ++ drop 4 left = sym (take-append-drop 4 left) ∙ ap (λ (x : List ℕ). x ++ drop 4 left) second.0 in
+      let lt = second.1 in
+      ap header_at text ∙ header_by left (drop 4 left) 2 (ap number_at parts ∙ number_again 2 (drop 4 left) (omega arith)) ∙ number_fails (drop 4 left) (omega (arith, length-drop 4 left))
+]
 
 -- reading comes to the row
 at_row : (bytes : List ℕ) (n : ℕ) (rows : List (Stat × IndexEntry)) (left : List ℕ) → StandsAtRow bytes n rows left
@@ -65,9 +65,9 @@ at_row bytes n rows left at =
     let len : length (entries_of rows) + 1 ≡ n = ap (λ (k : ℕ). k + 1) (length-map rows (λ (r : Stat × IndexEntry). r.1)) ∙ sym at.number in
     let header : header_at bytes ≡ Ok (count, flat_map row_text rows ++ left) = ap header_at at.stands.text ∙ header_again count (flat_map row_text rows ++ left) at.stands.few in
     let on : entries_at count [] (flat_map row_text rows ++ left) ≡ entries_at (suc more) (entries_of rows) left =
-        ap (λ (k : ℕ). entries_at k [] (flat_map row_text rows ++ left)) split ∙ entries_on [] rows left (suc more) at.stands.are_rows at.stands.in_order in
+    ap (λ (k : ℕ). entries_at k [] (flat_map row_text rows ++ left)) split ∙ entries_on [] rows left (suc more) at.stands.are_rows at.stands.in_order in
     let step : entries_at (suc more) (entries_of rows) left ≡ (entry_at n left >>= λ entry. appended (entries_of rows) entry.0 >>= λ es. entries_at more es entry.1) =
-        ap (λ (k : ℕ). entry_at k left >>= λ entry. appended (entries_of rows) entry.0 >>= λ es. entries_at more es entry.1) len in
+    ap (λ (k : ℕ). entry_at k left >>= λ entry. appended (entries_of rows) entry.0 >>= λ es. entries_at more es entry.1) len in
     (more, λ f e. rw (header, on ∙ step ∙ e) refl)
 
 no_whole_fails : (bytes : List ℕ) (r : Result (List ℕ × List ℕ) IndexFault) → whole_at bytes ≡ r → ((text rest : List ℕ) → bytes ≡ text ++ rest → IsWhole text → ⊥) → r ≡ failed fault.Count

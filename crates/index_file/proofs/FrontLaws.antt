@@ -163,7 +163,7 @@ carried_is files (c ∷ last) [] all le = cc
 carried_is files (c ∷ last) (b ∷ path) all le =
     step_by (c == b) (common last path) (has_empty files) (fronts (behind c files) last) (fronts (behind b files) path) (length path)
     (λ e. carried_is (behind c files) last path (behind_most c last files all) (when_same c b (at_most last path) (nat_lt c b) e le)
-        ∙ ap (λ (n : ℕ). fronts (behind n files) path) (eqb-true c b e))
+    ∙ ap (λ (n : ℕ). fronts (behind n files) path) (eqb-true c b e))
     (λ e. sym (ap (λ (fs : List (List ℕ)). fronts fs path) (behind_none b c last files (when_other c b (at_most last path) (nat_lt c b) e le) all) ∙ fronts_none path))
 
 -- ---- one file more

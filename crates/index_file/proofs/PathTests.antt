@@ -114,6 +114,6 @@ no_memory Memory = inl refl
 pub entry_fails : (n : ℕ) (mode : Mode) (id : List ℕ) (flags : ℕ) (path nuls : List ℕ) (f : PathFault) (r : IndexFault) → IsPathFaultOrMemory path f → (f ≡ Memory → r ≡ out_of_memory) → ((f ≡ Memory → ⊥) → r ≡ Name n)
     → Fails r (entry_of n (Some mode) id flags path nuls)
 entry_fails n mode id flags path nuls f r h p q = elim (no_memory f) [
-      | inl e ↦ rw (p e) tt
-      | inr e ↦ rw (q e) (entry_bad n mode id flags path nuls (fault_fails path f h e))
-    ]
+  | inl e ↦ rw (p e) tt
+  | inr e ↦ rw (q e) (entry_bad n mode id flags path nuls (fault_fails path f h e))
+]

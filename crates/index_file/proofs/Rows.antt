@@ -200,32 +200,34 @@ row_taken n text e w bytes h =
     let below : len < 4096 = omega arith in
     let path-len : length e.path ≡ len = sym (ap length g.path) ∙ long_part text 62 len (omega arith) in
     let mode-bytes : take 4 (drop 24 text) ≡ to_be_bytes w32 (mode_number e.mode) =
-        sym (be_bytes_4 (take 4 (drop 24 text)) (mode_number e.mode) (long_part text 24 4 (omega arith)) (IsBytes-take 4 (drop 24 text) (IsBytes-drop 24 text bytes)) (sym m.0)) in
+    sym (be_bytes_4 (take 4 (drop 24 text)) (mode_number e.mode) (long_part text 24 4 (omega arith)) (IsBytes-take 4 (drop 24 text) (IsBytes-drop 24 text bytes)) (sym m.0)) in
     let bits : flags (f / 32768) e ≡ f = ap (λ (s : ℕ). f / 32768 * 32768 + s * 4096 + length e.path) (sym g.stage) ∙ flags_back f (length e.path) g.plain path-len in
     let flag-bytes : take 2 (drop 60 text) ≡ to_be_bytes w16 (flags (f / 32768) e) =
-        sym (be_bytes_2 (take 2 (drop 60 text)) (flags (f / 32768) e) (long_part text 60 2 (omega arith)) (IsBytes-take 2 (drop 60 text) (IsBytes-drop 60 text bytes)) bits) in
+    sym (be_bytes_2 (take 2 (drop 60 text)) (flags (f / 32768) e) (long_part text 60 2 (omega arith)) (IsBytes-take 2 (drop 60 text) (IsBytes-drop 60 text bytes)) bits) in
     let nuls-len : length (drop (62 + len) text) ≡ padding (62 + length e.path) = length-drop (62 + len) text ∙ rw path-len (omega arith) in
     let nuls : drop (62 + len) text ≡ replicate (padding (62 + length e.path)) 0 = zeros_are (drop (62 + len) text) g.zeros ∙ ap (λ (k : ℕ). replicate k 0) nuls-len in
     let id-len : length (take 20 (drop 40 text)) ≡ 20 = long_part text 40 20 (omega arith) in
     let P : List ℕ → Type 0 = λ p. IsPath p in
     let Q : List ℕ → Type 0 = λ i. IsBytes i in
     let text-is : text ≡ take 24 text ++ (take 4 (drop 24 text) ++ (take 12 (drop 28 text) ++ (take 20 (drop 40 text) ++ (take 2 (drop 60 text) ++ (take len (drop 62 text) ++ drop (62 + len) text))))) =
-        sym (take-append-drop 24 text)
-        ∙ ap (λ (x : List ℕ). take 24 text ++ x) (part text 24 4
-        ∙ ap (λ (x : List ℕ). take 4 (drop 24 text) ++ x) (part text 28 12
-        ∙ ap (λ (x : List ℕ). take 12 (drop 28 text) ++ x) (part text 40 20
-        ∙ ap (λ (x : List ℕ). take 20 (drop 40 text) ++ x) (part text 60 2
-        ∙ ap (λ (x : List ℕ). take 2 (drop 60 text) ++ x) (part text 62 len))))) in
+    sym (take-append-drop 24 text)
+    ∙ ap (λ (x : List ℕ). take 24 text ++ x) (part text 24 4
+    ∙ ap (λ (x : List ℕ). take 4 (drop 24 text) ++ x) (part text 28 12
+    ∙ ap (λ (x : List ℕ). take 12 (drop 28 text) ++ x) (part text 40 20
+    ∙ ap (λ (x : List ℕ). take 20 (drop 40 text) ++ x) (part text 60 2
+    ∙ ap (λ (x : List ℕ). take 2 (drop 60 text) ++ x) (part text 62 len))))) in
     let replaced : take 24 text ++ (take 4 (drop 24 text) ++ (take 12 (drop 28 text) ++ (take 20 (drop 40 text) ++ (take 2 (drop 60 text) ++ (take len (drop 62 text) ++ drop (62 + len) text)))))
-        ≡ take 24 text ++ (to_be_bytes w32 (mode_number e.mode) ++ (take 12 (drop 28 text) ++ (e.id ++ (to_be_bytes w16 (flags (f / 32768) e) ++ (e.path ++ replicate (padding (62 + length e.path)) 0))))) =
-        seven (take 24 text) (take 12 (drop 28 text)) mode-bytes g.id flag-bytes g.path nuls in
-    (text-is ∙ replaced, record {
-      stat = record { times = length-take 24 text ∙ omega arith; owner = long_part text 28 12 (omega arith); assumed = omega arith };
-      staged = record { stage = omega (arith, g.stage); mode = m.1 };
-      path = subst P g.path g.is_path;
-      id = sym (ap length g.id) ∙ id-len;
-      bytes = subst Q g.id (IsBytes-take 20 (drop 40 text) (IsBytes-drop 40 text bytes));
-    })
+    ≡ take 24 text ++ (to_be_bytes w32 (mode_number e.mode) ++ (take 12 (drop 28 text) ++ (e.id ++ (to_be_bytes w16 (flags (f / 32768) e) ++ (e.path ++ replicate (padding (62 + length e.path)) 0))))) =
+    seven (take 24 text) (take 12 (drop 28 text)) mode-bytes g.id flag-bytes g.path nuls in (
+      text-is ∙ replaced,
+      record {
+        stat = record { times = length-take 24 text ∙ omega arith; owner = long_part text 28 12 (omega arith); assumed = omega arith };
+        staged = record { stage = omega (arith, g.stage); mode = m.1 };
+        path = subst P g.path g.is_path;
+        id = sym (ap length g.id) ∙ id-len;
+        bytes = subst Q g.id (IsBytes-take 20 (drop 40 text) (IsBytes-drop 40 text bytes));
+      },
+    )
   where
     seven : (t o : List ℕ) {m m' i i' f f' p p' z z' : List ℕ} → m ≡ m' → i ≡ i' → f ≡ f' → p ≡ p' → z ≡ z' → t ++ (m ++ (o ++ (i ++ (f ++ (p ++ z))))) ≡ t ++ (m' ++ (o ++ (i' ++ (f' ++ (p' ++ z')))))
     seven t o a b c d e = cc
@@ -265,13 +267,13 @@ row_again n r h =
     let p = flag_parts r.0.assumed r.1.stage (length r.1.path) h.stat.assumed h.staged.stage h.path.short in
     let len : flags_in text % 4096 ≡ length r.1.path = ap (λ (f : ℕ). f % 4096) c.flags ∙ p.2 in
     let mode-is : mode_of (from_be_bytes w32 (take 4 (drop 24 text))) ≡ Some r.1.mode =
-        ap mode_of (ap (from_be_bytes w32) c.mode ∙ from_be_bytes-to_be_bytes_4 (mode_number r.1.mode) (mode_small r.1.mode)) ∙ mode_again r.1.mode h.staged.mode in
+    ap mode_of (ap (from_be_bytes w32) c.mode ∙ from_be_bytes-to_be_bytes_4 (mode_number r.1.mode) (mode_small r.1.mode)) ∙ mode_again r.1.mode h.staged.mode in
     let path-is : take (flags_in text % 4096) (drop 62 text) ≡ r.1.path = ap (λ (k : ℕ). take k (drop 62 text)) len ∙ c.path in
     let nuls-is : drop (62 + flags_in text % 4096) text ≡ replicate (padding (62 + length r.1.path)) 0 = ap (λ (k : ℕ). drop (62 + k) text) len ∙ c.nuls in
     let f : ℕ = flags r.0.assumed r.1 in
     let plain : (f / 16384 % 2 == 0) ≡ true = ap (λ (k : ℕ). k == 0) p.0 in
     let same : entry_of n (mode_of (from_be_bytes w32 (take 4 (drop 24 text)))) (take 20 (drop 40 text)) (flags_in text) (take (flags_in text % 4096) (drop 62 text)) (drop (62 + flags_in text % 4096) text)
-        ≡ entry_of n (Some r.1.mode) r.1.id f r.1.path (replicate (padding (62 + length r.1.path)) 0) = six n mode-is c.id c.flags path-is nuls-is in
+    ≡ entry_of n (Some r.1.mode) r.1.id f r.1.path (replicate (padding (62 + length r.1.path)) 0) = six n mode-is c.id c.flags path-is nuls-is in
     same ∙ entry_good n r.1.mode r.1.id f r.1.path (replicate (padding (62 + length r.1.path)) 0) plain (zeros_pass (padding (62 + length r.1.path))) (path_passes r.1.path h.path)
     ∙ ap (λ (s : ℕ). Ok (record { path = r.1.path; stage = s; mode = r.1.mode; id = r.1.id })) p.1
   where

@@ -178,9 +178,9 @@ extension_takes bytes rest h eq =
     record {
       extension = record { tag = take 4 bytes; content = content };
       text = sym (take-append-drop 4 bytes)
-        ∙ ap (λ (x : List ℕ). take 4 bytes ++ x) (sym (take-append-drop 4 (drop 4 bytes)) ∙ ap (λ (x : List ℕ). take 4 (drop 4 bytes) ++ x) (drop-drop 4 4 bytes ∙ sym (take-append-drop size (drop 8 bytes)) ∙ ap (λ (x : List ℕ). content ++ x) (sym rest-is))
-        ∙ ap (λ (x : List ℕ). x ++ (content ++ rest)) number-is)
-        ∙ regroup (take 4 bytes) (to_be_bytes w32 (length content)) content rest;
+          ∙ ap (λ (x : List ℕ). take 4 bytes ++ x) (sym (take-append-drop 4 (drop 4 bytes)) ∙ ap (λ (x : List ℕ). take 4 (drop 4 bytes) ++ x) (drop-drop 4 4 bytes ∙ sym (take-append-drop size (drop 8 bytes)) ∙ ap (λ (x : List ℕ). content ++ x) (sym rest-is))
+          ∙ ap (λ (x : List ℕ). x ++ (content ++ rest)) number-is)
+          ∙ regroup (take 4 bytes) (to_be_bytes w32 (length content)) content rest;
       is_extension = record { tag = omega (arith, length-take 4 bytes); capital = rw (first_byte bytes) capital; content = omega arith };
       rest_bytes = subst P g.3 (IsBytes-drop (8 + size) bytes h);
       long = omega (arith, ap length g.3, length-drop (8 + size) bytes);
@@ -200,14 +200,14 @@ extension_again x rest h le =
     let text : bytes ≡ x.tag ++ (to_be_bytes w32 (length x.content) ++ (x.content ++ rest)) = simp append_assoc in
     let behind : drop 4 bytes ≡ to_be_bytes w32 (length x.content) ++ (x.content ++ rest) = ap (drop 4) text ∙ drop_at x.tag (to_be_bytes w32 (length x.content) ++ (x.content ++ rest)) 4 h.tag in
     let size : from_be_bytes w32 (take 4 (drop 4 bytes)) ≡ length x.content =
-        ap (λ (b : List ℕ). from_be_bytes w32 (take 4 b)) behind ∙ ap (from_be_bytes w32) (take_at (to_be_bytes w32 (length x.content)) (x.content ++ rest) 4 refl) ∙ from_be_bytes-to_be_bytes_4 (length x.content) h.content in
+    ap (λ (b : List ℕ). from_be_bytes w32 (take 4 b)) behind ∙ ap (from_be_bytes w32) (take_at (to_be_bytes w32 (length x.content)) (x.content ++ rest) 4 refl) ∙ from_be_bytes-to_be_bytes_4 (length x.content) h.content in
     let len : length bytes ≡ 8 + length x.content + length rest = ap length text ∙ simp length-append (omega (arith, h.tag)) in
     let first : nat_lt (length bytes) 28 ≡ false = is_not_less (length bytes) 28 (omega arith) in
     let byte : slice_index bytes 0 ≡ slice_index x.tag 0 = ap (λ (b : List ℕ). slice_index b 0) text ∙ first_of_append x.tag (to_be_bytes w32 (length x.content) ++ (x.content ++ rest)) (omega (arith, h.tag)) in
     let second : not (is_capital (slice_index bytes 0)) ≡ false = ap (λ (b : ℕ). not (is_capital b)) byte ∙ capital_again (slice_index x.tag 0) h.capital.0 h.capital.1 in
     let third : nat_lt (length bytes) (28 + from_be_bytes w32 (take 4 (drop 4 bytes))) ≡ false = ap (λ (k : ℕ). nat_lt (length bytes) (28 + k)) size ∙ is_not_less (length bytes) (28 + length x.content) (omega arith) in
     let last : drop (8 + from_be_bytes w32 (take 4 (drop 4 bytes))) bytes ≡ rest =
-        ap (λ (k : ℕ). drop (8 + k) bytes) size ∙ drop_at (extension_text x) rest (8 + length x.content) (simp length-append (omega (arith, h.tag))) in
+    ap (λ (k : ℕ). drop (8 + k) bytes) size ∙ drop_at (extension_text x) rest (8 + length x.content) (simp length-append (omega (arith, h.tag))) in
     passed (nat_lt (length bytes) 28) (not (is_capital (slice_index bytes 0))) (nat_lt (length bytes) (28 + from_be_bytes w32 (take 4 (drop 4 bytes)))) fault.Count (fault.Extension (take 4 bytes)) fault.Count _ rest first second third last
   where
     passed : (a b c : Bool) (x y z : IndexFault) (v w : List ℕ) → a ≡ false → b ≡ false → c ≡ false → v ≡ w → cond a (Err x) (cond b (Err y) (cond c (Err z) (Ok v))) ≡ Ok w

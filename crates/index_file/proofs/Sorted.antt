@@ -70,15 +70,15 @@ stages_chain a b c p q = grind (arith, nat_tests)
 
 before_chain : (d f e : IndexEntry) → comes_before d f ≡ true → comes_before f e ≡ true → comes_before d e ≡ true
 before_chain d f e p q = elim (way d f p) [
-      | inl less ↦ elim (way f e q) [
-        | inl lesser ↦ from_less d e (nat_list_cmp_total.trans d.path f.path e.path less lesser)
-        | inr same ↦ from_less d e (sym (ap (λ (x : List ℕ). slice_cmp nat_cmp d.path x) same.0) ∙ less)
-      ]
-      | inr same ↦ elim (way f e q) [
-        | inl less ↦ from_less d e (ap (λ (x : List ℕ). slice_cmp nat_cmp x e.path) same.0 ∙ less)
-        | inr also ↦ from_same d e (same.0 ∙ also.0) (stages_chain d.stage f.stage e.stage same.1 also.1)
-      ]
-    ]
+  | inl less ↦ elim (way f e q) [
+    | inl lesser ↦ from_less d e (nat_list_cmp_total.trans d.path f.path e.path less lesser)
+    | inr same ↦ from_less d e (sym (ap (λ (x : List ℕ). slice_cmp nat_cmp d.path x) same.0) ∙ less)
+  ]
+  | inr same ↦ elim (way f e q) [
+    | inl less ↦ from_less d e (ap (λ (x : List ℕ). slice_cmp nat_cmp x e.path) same.0 ∙ less)
+    | inr also ↦ from_same d e (same.0 ∙ also.0) (stages_chain d.stage f.stage e.stage same.1 also.1)
+  ]
+]
 
 is_upto : (xs ys : List ℕ) (o : Ordering) → o ≡ slice_cmp nat_cmp xs ys → is_le o ≡ at_most xs ys
 is_upto = same_from_slice_cmp nat_cmp is_le at_most refl (λ _ _. refl) (λ _ _. refl) (λ x y xs ys o h. grind (arith, nat_tests))
@@ -88,9 +88,9 @@ most_itself p = sym (is_upto p p Equal (sym (itself p)))
 
 comes_most : (d e : IndexEntry) → comes_before d e ≡ true → at_most d.path e.path ≡ true
 comes_most d e h = elim (way d e h) [
-      | inl less ↦ sym (is_upto d.path e.path Less (sym less))
-      | inr same ↦ ap (λ (x : List ℕ). at_most x e.path) same.0 ∙ most_itself e.path
-    ]
+  | inl less ↦ sym (is_upto d.path e.path Less (sym less))
+  | inr same ↦ ap (λ (x : List ℕ). at_most x e.path) same.0 ∙ most_itself e.path
+]
 
 -- ---- the last entry
 
@@ -178,7 +178,7 @@ all_most (d ∷ f ∷ es) h =
     let P : Option IndexEntry → Type 0 = λ o. AllAtMost (files_of (d ∷ f ∷ es)) (path_of o) in
     subst P (sym (last_more d f es))
     (most_by (d.stage == 0) d (filter (λ e. e.stage == 0) (f ∷ es)) (path_of (last_of (f ∷ es)))
-        (most_last d (last_of (f ∷ es)) last.0 last.1 (last_has (λ e. may_precede d e ≡ true) f es h.0)) (all_most (f ∷ es) h.1))
+    (most_last d (last_of (f ∷ es)) last.0 last.1 (last_has (λ e. may_precede d e ≡ true) f es h.0)) (all_most (f ∷ es) h.1))
 
 allows_most : (o : Option IndexEntry) (e : IndexEntry) → allows o e ≡ true → at_most (path_of o) e.path ≡ true
 allows_most None e h = refl
@@ -224,18 +224,22 @@ push_path es e files = ap (λ (o : Option IndexEntry). fronts files (path_of o))
 pub placed_other : (es : List IndexEntry) (marks moved : List Bool) (e : IndexEntry) → HoldsFronts es marks → allows (last_of es) e ≡ true → moved ≡ carried (path_of (last_of es)) marks e.path → (e.stage == 0) ≡ false
     → (may_follow es e ≡ true) × HoldsFronts (es ++ e ∷ []) moved
 placed_other es marks moved e h p q other =
-    let follows : may_follow es e ≡ true = follow_is es e h.in_order ∙ rw (p, other) refl in
-    (follows, record {
-      in_order = in_order_push es e h.in_order follows;
-      fronts = marks_are es marks moved e h p q ∙ ap (λ (fs : List (List ℕ)). fronts fs e.path) (sym (files_push es e ∙ rw other refl)) ∙ push_path es e (files_of (es ++ e ∷ []));
-    })
+    let follows : may_follow es e ≡ true = follow_is es e h.in_order ∙ rw (p, other) refl in (
+      follows,
+      record {
+        in_order = in_order_push es e h.in_order follows;
+        fronts = marks_are es marks moved e h p q ∙ ap (λ (fs : List (List ℕ)). fronts fs e.path) (sym (files_push es e ∙ rw other refl)) ∙ push_path es e (files_of (es ++ e ∷ []));
+      },
+    )
 
 pub placed_file : (es : List IndexEntry) (marks moved : List Bool) (e : IndexEntry) (below : Bool) → HoldsFronts es marks → allows (last_of es) e ≡ true → moved ≡ carried (path_of (last_of es)) marks e.path → (e.stage == 0) ≡ true
     → below ≡ is_below_front moved e.path → (not below ≡ may_follow es e) × (not below ≡ true → HoldsFronts (es ++ e ∷ []) (set moved (length e.path) true))
 placed_file es marks moved e below h p q file is =
     let marked = marks_are es marks moved e h p q in
-    let follows : not below ≡ may_follow es e = ap not (is ∙ ap (λ (ms : List Bool). is_below_front ms e.path) marked) ∙ sym (follow_is es e h.in_order ∙ rw (p, file) refl) in
-    (follows, λ free. record {
-      in_order = in_order_push es e h.in_order (sym follows ∙ free);
-      fronts = ap (λ (ms : List Bool). set ms (length e.path) true) marked ∙ sym (fronts_more (files_of es) e.path) ∙ ap (λ (fs : List (List ℕ)). fronts fs e.path) (sym (files_push es e ∙ rw file refl)) ∙ push_path es e (files_of (es ++ e ∷ []));
-    })
+    let follows : not below ≡ may_follow es e = ap not (is ∙ ap (λ (ms : List Bool). is_below_front ms e.path) marked) ∙ sym (follow_is es e h.in_order ∙ rw (p, file) refl) in (
+      follows,
+      λ free. record {
+        in_order = in_order_push es e h.in_order (sym follows ∙ free);
+        fronts = ap (λ (ms : List Bool). set ms (length e.path) true) marked ∙ sym (fronts_more (files_of es) e.path) ∙ ap (λ (fs : List (List ℕ)). fronts fs e.path) (sym (files_push es e ∙ rw file refl)) ∙ push_path es e (files_of (es ++ e ∷ []));
+      },
+    )

@@ -81,9 +81,11 @@ header_takes bytes n rest h e =
     let two = guarded (a.0.0 == 2) (fault.Version a.0.0) (number_at a.0.1) (n, rest) a.2 in
     let first = number_takes (drop 4 bytes) a.0.0 a.0.1 (IsBytes-drop 4 bytes h) a.1 in
     let second = number_takes a.0.1 n rest (bytes_left (drop 4 bytes) (to_be_bytes w32 a.0.0) a.0.1 (IsBytes-drop 4 bytes h) first.0).1 two.1 in
-    let version : a.0.0 ≡ 2 = eqb-true a.0.0 2 two.0 in
-    (sym (take-append-drop 4 bytes) ∙ ap (λ (x : List ℕ). x ++ drop 4 bytes) (same_bytes (take 4 bytes) (codes "DIRC") magic.0)
-        ∙ ap (λ (x : List ℕ). codes "DIRC" ++ x) (first.0 ∙ ap (λ (k : ℕ). to_be_bytes w32 k ++ a.0.1) version ∙ ap (λ (x : List ℕ). to_be_bytes w32 2 ++ x) second.0), second.1)
+    let version : a.0.0 ≡ 2 = eqb-true a.0.0 2 two.0 in (
+      sym (take-append-drop 4 bytes) ∙ ap (λ (x : List ℕ). x ++ drop 4 bytes) (same_bytes (take 4 bytes) (codes "DIRC") magic.0)
+          ∙ ap (λ (x : List ℕ). codes "DIRC" ++ x) (first.0 ∙ ap (λ (k : ℕ). to_be_bytes w32 k ++ a.0.1) version ∙ ap (λ (x : List ℕ). to_be_bytes w32 2 ++ x) second.0),
+      second.1,
+    )
 
 -- what is read behind a signature and a version
 pub header_by : (rest after : List ℕ) (v : ℕ) → number_at rest ≡ Ok (v, after) → header_at (codes "DIRC" ++ rest) ≡ cond (v == 2) (number_at after) (Err (fault.Version v))
@@ -109,9 +111,9 @@ or_left false b e = cc
 
 pub trailer_from : (body trailer : List ℕ) → length trailer ≡ 20 → is_trailer body trailer ≡ true → IsTrailer body trailer
 trailer_from body trailer twenty e = elim (either (bytes_eq trailer (sha1 body)) (are_zero trailer) e) [
-      | inl same ↦ inl (same_bytes trailer (sha1 body) same)
-      | inr zeros ↦ inr (zeros_are trailer zeros ∙ ap (λ (k : ℕ). replicate k 0) twenty)
-    ]
+  | inl same ↦ inl (same_bytes trailer (sha1 body) same)
+  | inr zeros ↦ inr (zeros_are trailer zeros ∙ ap (λ (k : ℕ). replicate k 0) twenty)
+]
 
 pub trailer_passes : (body trailer : List ℕ) → IsTrailer body trailer → is_trailer body trailer ≡ true
 trailer_passes body trailer (inl same) = or_left (bytes_eq trailer (sha1 body)) (are_zero trailer) (ap (λ (x : List ℕ). bytes_eq x (sha1 body)) same ∙ nat_list_eq_equiv.refl (sha1 body))
@@ -196,14 +198,13 @@ index_again bytes es s =
     let twenty = trailer_len (body_text s.rows s.extensions) s.trailer s.is_trailer in
     let tail : List ℕ = flat_map extension_text s.extensions ++ s.trailer in
     let text : bytes ≡ header_text (length s.rows) ++ (flat_map row_text s.rows ++ tail) =
-        s.text ∙ append_assoc (header_text (length s.rows)) (flat_map row_text s.rows ++ flat_map extension_text s.extensions) s.trailer ∙ ap (λ (x : List ℕ). header_text (length s.rows) ++ x) (append_assoc (flat_map row_text s.rows) (flat_map extension_text s.extensions) s.trailer) in
+    s.text ∙ append_assoc (header_text (length s.rows)) (flat_map row_text s.rows ++ flat_map extension_text s.extensions) s.trailer ∙ ap (λ (x : List ℕ). header_text (length s.rows) ++ x) (append_assoc (flat_map row_text s.rows) (flat_map extension_text s.extensions) s.trailer) in
     let few : length s.rows < 2 ^ 32 = omega (arith, s.index.few, ap length s.entries, length-map s.rows (λ (r : Stat × IndexEntry). r.1)) in
     let front : take (length bytes - 20) bytes ≡ body_text s.rows s.extensions = front_of_body (body_text s.rows s.extensions) s.trailer bytes twenty s.text in
     reads_tail s.rows bytes tail s.are_rows (subst P (sym s.entries) s.index.in_order) few text
     ∙ rw (trailer_again (length tail) s.extensions s.trailer s.are_extensions twenty (omega arith), front, trailer_passes (body_text s.rows s.extensions) s.trailer s.is_trailer) (ap (λ (x : List IndexEntry). Ok x) s.entries)
 
 -- ---- what is written
-
 
 same_rows : (es : List IndexEntry) → flat_map row_text (map (λ e. (no_stat, e)) es) ≡ flat_map entry_text es
 same_rows [] = refl
@@ -221,7 +222,7 @@ pub text_spells : (es : List IndexEntry) → IsIndex es → AllByRecursion (λ e
 text_spells es index h =
     let rows : List (Stat × IndexEntry) = map (λ e. (no_stat, e)) es in
     let body : header_text (length es) ++ flat_map entry_text es ≡ body_text rows [] =
-        ap (λ (k : ℕ). header_text k ++ flat_map entry_text es) (sym (length-map es (λ e. (no_stat, e)))) ∙ ap (λ (x : List ℕ). header_text (length rows) ++ x) (sym (same_rows es) ∙ sym (append-nil (flat_map row_text rows))) in
+    ap (λ (k : ℕ). header_text k ++ flat_map entry_text es) (sym (length-map es (λ e. (no_stat, e)))) ∙ ap (λ (x : List ℕ). header_text (length rows) ++ x) (sym (same_rows es) ∙ sym (append-nil (flat_map row_text rows))) in
     record {
       index = index;
       rows = rows;

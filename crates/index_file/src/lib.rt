@@ -12,3 +12,6 @@ pub use entry::IndexEntry;
 pub use fault::IndexFault;
 pub use read::parse_index;
 pub use write::index_text;
+
+#[cfg(test)]
+mod tests;

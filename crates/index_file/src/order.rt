@@ -64,11 +64,17 @@ fn move_to(files: &mut Vec<bool>, last: &[u8], path: &[u8]) -> Result<(), AllocE
 fn is_below(files: &[bool], path: &[u8]) -> bool
     ensures { result ≡ is_below_front files.now path.now }
 {
-    path.iter().zip(files).any(|(b, is_file)| *b == b'/' && *is_file)
+    path.iter()
+        .zip(files)
+        .any(|(b, is_file)| *b == b'/' && *is_file)
 }
 
 /// Whether the entry may stand behind the others, with what is then known of the fronts of its path.
-fn place(entries: &[IndexEntry], files: &mut Vec<bool>, entry: &IndexEntry) -> Result<bool, AllocError>
+fn place(
+    entries: &[IndexEntry],
+    files: &mut Vec<bool>,
+    entry: &IndexEntry,
+) -> Result<bool, AllocError>
     requires { HoldsFronts entries.now files.old.items }
     ensures placed { IfOk result (λ placed. placed ≡ may_follow entries.now entry.now) }
     ensures holds { IfOk result (λ placed. placed ≡ true → HoldsFronts (entries.now ++ entry.now ∷ []) files.new.items) }
@@ -88,7 +94,11 @@ fn place(entries: &[IndexEntry], files: &mut Vec<bool>, entry: &IndexEntry) -> R
 
 /// Puts an entry behind the others, if it may stand there.
 #[tactic(auto, unfolding(crate::specs::Reading::appended))]
-pub fn append(entries: &mut Vec<IndexEntry>, files: &mut Vec<bool>, entry: IndexEntry) -> Result<(), IndexFault>
+pub fn append(
+    entries: &mut Vec<IndexEntry>,
+    files: &mut Vec<bool>,
+    entry: IndexEntry,
+) -> Result<(), IndexFault>
     requires { HoldsFronts entries.old.items files.old.items }
     ensures holds { OnOk result (HoldsFronts entries.new.items files.new.items) }
     ensures gives { Gives (λ _. entries.new.items) result (appended entries.old.items entry) }

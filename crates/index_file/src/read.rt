@@ -25,7 +25,9 @@ fn header_of(bytes: &[u8]) -> Result<(u32, &[u8]), IndexFault>
     }
     let (version, rest) = u32_of(&bytes[4..])?;
     if version != 2 {
-        return Err(IndexFault::Version { n: u64::from(version) });
+        return Err(IndexFault::Version {
+            n: u64::from(version),
+        });
     }
     u32_of(rest)
 }
@@ -43,7 +45,15 @@ fn name_fault(n: u64, fault: PathFault) -> IndexFault
 
 /// The entry with these fields, or entry n is bad.
 #[tactic(auto, unfolding(crate::specs::Reading::entry_of))]
-fn entry_with_fields(alloc: Global, n: u64, mode: Option<Mode>, id: [u8; 20], flags: u16, path: &[u8], padding: &[u8]) -> Result<IndexEntry, IndexFault>
+fn entry_with_fields(
+    alloc: Global,
+    n: u64,
+    mode: Option<Mode>,
+    id: [u8; 20],
+    flags: u16,
+    path: &[u8],
+    padding: &[u8],
+) -> Result<IndexEntry, IndexFault>
     ensures { Gives (λ e. e) result (entry_with n mode id flags path.now padding.now) }
 {
     let Some(mode) = mode else {
@@ -94,7 +104,15 @@ fn entry_in_text(alloc: Global, n: u64, text: &[u8]) -> Result<IndexEntry, Index
     id.copy_from_slice(&text[40..60]);
     let flags = flags_of(text);
     let end = 62 + usize::from(flags % 4096);
-    entry_with_fields(alloc, n, mode_numbered(mode), id, flags, &text[62..end], &text[end..])
+    entry_with_fields(
+        alloc,
+        n,
+        mode_numbered(mode),
+        id,
+        flags,
+        &text[62..end],
+        &text[end..],
+    )
 }
 
 /// Entry n, from 1.
@@ -108,7 +126,11 @@ fn entry_of(alloc: Global, n: u64, bytes: &[u8]) -> Result<(IndexEntry, &[u8]), 
 }
 
 /// So many entries.
-fn entries_of(alloc: Global, count: u32, bytes: &[u8]) -> Result<(Vec<IndexEntry>, &[u8]), IndexFault>
+fn entries_of(
+    alloc: Global,
+    count: u32,
+    bytes: &[u8],
+) -> Result<(Vec<IndexEntry>, &[u8]), IndexFault>
     ensures { Gives (λ x. (x.0.items, x.1.now)) result (entries_at count [] bytes.now) }
 {
     let mut entries = Vec::new(alloc);

@@ -20,22 +20,22 @@ below_at below marks marks' path path' p q h = cc
 pub returns-then-entry-ne0-clause-placed : goal.returns-then-entry-ne0-clause-placed
 returns-then-entry-ne0-clause-placed c =
     sym (placed_other c.args.entries.now c.args.files.now.items c.move_to.new.files.items c.args.entry.now c.requires (sym c.if-not-is_after_all.ensures)
-        (moved _ _ _ _ _ _ c.last_path.ensures c.bytes-path.ensures.same c.in_ok-move_to.ensures.marks) (ne_eqb c.args.entry.now.stage 0 c.if-entry-ne0.true)).0
+    (moved _ _ _ _ _ _ c.last_path.ensures c.bytes-path.ensures.same c.in_ok-move_to.ensures.marks) (ne_eqb c.args.entry.now.stage 0 c.if-entry-ne0.true)).0
 
 pub returns-then-entry-ne0-clause-holds : goal.returns-then-entry-ne0-clause-holds
 returns-then-entry-ne0-clause-holds c = λ _.
     (placed_other c.args.entries.now c.args.files.now.items c.move_to.new.files.items c.args.entry.now c.requires (sym c.if-not-is_after_all.ensures)
-        (moved _ _ _ _ _ _ c.last_path.ensures c.bytes-path.ensures.same c.in_ok-move_to.ensures.marks) (ne_eqb c.args.entry.now.stage 0 c.if-entry-ne0.true)).1
+    (moved _ _ _ _ _ _ c.last_path.ensures c.bytes-path.ensures.same c.in_ok-move_to.ensures.marks) (ne_eqb c.args.entry.now.stage 0 c.if-entry-ne0.true)).1
 
 pub returns-clause-placed : goal.returns-clause-placed
 returns-clause-placed c =
     (placed_file c.args.entries.now c.args.files.now.items c.move_to.new.files.items c.args.entry.now c.is_below-is_free.result c.requires (sym c.if-not-is_after_all.ensures)
-        (moved _ _ _ _ _ _ c.last_path.ensures c.bytes-path.ensures.same c.in_ok-move_to.ensures.marks) (eq-eqb c.args.entry.now.stage 0 c.if-entry-ne0.false)
-        (below_at _ _ _ _ _ c.deref.ensures.value c.bytes-path.ensures.same c.is_below-is_free.ensures)).0
+    (moved _ _ _ _ _ _ c.last_path.ensures c.bytes-path.ensures.same c.in_ok-move_to.ensures.marks) (eq-eqb c.args.entry.now.stage 0 c.if-entry-ne0.false)
+    (below_at _ _ _ _ _ c.deref.ensures.value c.bytes-path.ensures.same c.is_below-is_free.ensures)).0
 
 pub returns-clause-holds : goal.returns-clause-holds
 returns-clause-holds c = λ free.
     rw c.bytes-path.ensures.same
     ((placed_file c.args.entries.now c.args.files.now.items c.move_to.new.files.items c.args.entry.now c.is_below-is_free.result c.requires (sym c.if-not-is_after_all.ensures)
-        (moved _ _ _ _ _ _ c.last_path.ensures c.bytes-path.ensures.same c.in_ok-move_to.ensures.marks) (eq-eqb c.args.entry.now.stage 0 c.if-entry-ne0.false)
-        (below_at _ _ _ _ _ c.deref.ensures.value c.bytes-path.ensures.same c.is_below-is_free.ensures)).1 free)
+    (moved _ _ _ _ _ _ c.last_path.ensures c.bytes-path.ensures.same c.in_ok-move_to.ensures.marks) (eq-eqb c.args.entry.now.stage 0 c.if-entry-ne0.false)
+    (below_at _ _ _ _ _ c.deref.ensures.value c.bytes-path.ensures.same c.is_below-is_free.ensures)).1 free)

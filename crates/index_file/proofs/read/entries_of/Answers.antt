@@ -10,7 +10,7 @@ returns-in_err-append-in-Ok c =
     let read = ap (λ (n : ℕ). entry_at (n + 1) c.loop-i.rest.now) (sym c.from.ensures) ∙ c.in-Ok.ensures in
     rw (p.1, p.2)
     (append_fails c.in_err-append-in-Ok.field-0.0 c.args.count c.loop-i.i c.loop-i.entries.items c.in-Ok.found.0 c.loop-i.rest.now c.in-Ok.found.1.now (entries_at c.args.count [] c.args.bytes.now) c.loop-i-test.true c.loop-i.invariant.number
-        read c.in_err-append-in-Ok.ensures.gives c.loop-i.invariant.rest)
+    read c.in_err-append-in-Ok.ensures.gives c.loop-i.invariant.rest)
 
 pub returns-in-Err : goal.returns-in-Err
 returns-in-Err c =
@@ -22,7 +22,7 @@ loop-i-preserved c =
     let read = ap (λ (n : ℕ). entry_at (n + 1) c.loop-i.rest.now) (sym c.from.ensures) ∙ c.in-Ok.ensures in
     record {
       rest = goes_on c.args.count c.loop-i.i c.loop-i.entries.items c.append.new.entries.items c.in-Ok.found.0 c.loop-i.rest.now c.in-Ok.found.1.now (entries_at c.args.count [] c.args.bytes.now) c.loop-i-test.true c.loop-i.invariant.number
-      read c.in_ok-append-in-Ok.ensures.gives c.loop-i.invariant.rest;
+          read c.in_ok-append-in-Ok.ensures.gives c.loop-i.invariant.rest;
       number = appended_len c.loop-i.entries.items c.in-Ok.found.0 c.append.new.entries.items c.loop-i.i c.in_ok-append-in-Ok.ensures.gives c.loop-i.invariant.number;
       fronts = c.in_ok-append-in-Ok.ensures.holds;
     }

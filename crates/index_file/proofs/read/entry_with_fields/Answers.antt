@@ -8,7 +8,7 @@ pub returns-in-Ok : goal.returns-in-Ok
 returns-in-Ok c =
     rw (c.in-Some.is, c.from_bytes.ensures, c.in-Ok.ensures.ok.0)
     (entry_good c.args.n c.in-Some.mode c.args.id c.args.flags c.args.path.now c.args.padding.now (eq-eqb (c.args.flags / 16384 % 2) 0 c.if-flags-ne0.false) (sym c.if-not-are_zero.ensures)
-        (path_passes c.args.path.now c.in-Ok.ensures.ok.1))
+    (path_passes c.args.path.now c.in-Ok.ensures.ok.1))
 
 pub returns-in-Err : goal.returns-in-Err
 returns-in-Err c =

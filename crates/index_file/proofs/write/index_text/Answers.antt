@@ -13,7 +13,7 @@ loop-entry-preserved c = record {
 pub returns : goal.returns
 returns c =
     let text = finished c.loop-entry.out.items c.digest-hash.result c.deref.result.now c.extend_from_slice.new.self.items c.args.entries.now c.loop-entry.entry-index c.loop-entry-test.false c.loop-entry.invariant.text
-      c.deref.ensures.value c.digest-hash.ensures c.in_ok-extend_from_slice.ensures.items in
+    c.deref.ensures.value c.digest-hash.ensures c.in_ok-extend_from_slice.ensures.items in
     let P : List ℕ → Type 0 = λ x. Spells c.args.entries.now x in
     record {
       text = text;
