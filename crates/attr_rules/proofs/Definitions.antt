@@ -1,5 +1,5 @@
 -- The definitions of all files.
-use Rattle.std.proofs.Common.{◌≡◌, ℕ, ◌<◌, List, [], ◌∷◌, ◌++◌, length, sym, ap, ◌∙◌, subst, arith}
+use Rattle.std.proofs.Common.{◌≡◌, ◌<◌, List, [], ◌∷◌, ◌++◌, length, sym, ap, ◌∙◌, arith}
 use Rattle.std.proofs.lemmas.List.{append-nil}
 use Rattle.attr_rules.specs.declared.macros.Macro.{Macro}
 use Rattle.attr_rules.specs.Rules.{RuleFile}

@@ -1,10 +1,10 @@
 -- The marks of a text, held against the pieces that are left.
-use Rattle.std.proofs.Common.{map, ◌<◌, ◌≡◌, ◌↔◌, ℕ, zero, suc, ◌+◌, Bool, true, false, List, [], ◌∷◌, ◌++◌, length, get_or, Option, Some, None, refl, sym, ap, subst, ◌∙◌, arith, ◌⊎◌, inl, inr}
-use Rattle.std.specs.Prelude.{not, ◌&&◌, ◌||◌, ◌==◌, replicate, IsTrue}
+use Rattle.std.proofs.Common.{map, ◌<◌, ◌≡◌, ◌↔◌, ℕ, suc, Bool, true, false, List, [], ◌∷◌, ◌++◌, length, get_or, Some, None, refl, sym, ap, subst, ◌∙◌, arith, inl, inr}
+use Rattle.std.specs.Prelude.{not, ◌&&◌, ◌||◌, ◌==◌}
 use Rattle.std.specs.List.{list_all}
 use Rattle.std.proofs.lemmas.Bool.{eqb-true, eq-eqb, and_parts, or_cases, and_from, or_left, or_right}
 use Rattle.attr_rules.specs.declared.letter.Letter.{Letter}
-use Rattle.attr_rules.specs.Pieces.{Piece, Byte, AnyByte, OneOf, Star, Folders, Everything, Takes, TakeAll, Cut, piece_at, ends_part, fits_set}
+use Rattle.attr_rules.specs.Pieces.{Piece, Byte, AnyByte, OneOf, Star, Folders, Everything, Takes, TakeAll, Cut, piece_at, ends_part}
 use Rattle.attr_rules.specs.Matches.{Fits}
 use Rattle.attr_rules.specs.Reach.{may_be_empty, may_end, may_go_on, first_marks, later_marks, marks_behind}
 use Rattle.attr_rules.proofs.Marks.{goes_on, followed, holds, holds_later, holds_behind}

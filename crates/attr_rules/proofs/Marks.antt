@@ -1,6 +1,6 @@
 -- What the marks of a path mean: some text that begins at a marked place fits.
-use Rattle.std.proofs.Common.{◌≡◌, ℕ, zero, suc, ◌+◌, Bool, true, false, List, [], ◌∷◌, length, get_or, refl, sym, ap, ◌∙◌, arith}
-use Rattle.std.specs.Prelude.{not, ◌&&◌, ◌||◌, ◌==◌, replicate}
+use Rattle.std.proofs.Common.{◌≡◌, ℕ, suc, Bool, true, false, List, [], ◌∷◌, length, refl, ap, ◌∙◌, arith}
+use Rattle.std.specs.Prelude.{◌&&◌, ◌||◌}
 use Rattle.attr_rules.specs.Pieces.{Piece}
 use Rattle.attr_rules.specs.Reach.{may_be_empty, may_end, may_go_on, later_marks, marks_behind}
 

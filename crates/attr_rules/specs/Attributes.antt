@@ -1,5 +1,5 @@
 -- gitattributes(5), "DESCRIPTION" and "DEFINING MACRO ATTRIBUTES": what the attributes of a rule say of `merge`.
-use Rattle.std.specs.Prelude.{◌≡◌, ℕ, ◌+◌, ◌<◌, ◌==◌, nat_lt, Bool, true, false, not, ◌&&◌, ◌||◌, if◌then◌else◌, List, [], ◌∷◌, ◌++◌, Option, Some, None, length, drop, codes, reverse}
+use Rattle.std.specs.Prelude.{ℕ, ◌==◌, nat_lt, Bool, false, not, ◌&&◌, if◌then◌else◌, List, [], ◌∷◌, ◌++◌, Option, Some, None, length, drop, codes, reverse}
 use Rattle.std.specs.Option.{option_or}
 use Rattle.std.specs.List.{list_any, slice_split, filter_map, before_first, after_first, starts_with}
 use Rattle.std.specs.Str.{bytes_eq}

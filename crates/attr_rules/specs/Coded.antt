@@ -1,5 +1,5 @@
 -- What the pieces of the program stand for.
-use Rattle.std.specs.Prelude.{Option, Some, None, List}
+use Rattle.std.specs.Prelude.{List}
 use Rattle.std.specs.Borrow.{Bor}
 use Rattle.attr_rules.specs.declared.letter.Letter.{Letter}
 use Rattle.attr_rules.specs.declared.piece.Piece as coded

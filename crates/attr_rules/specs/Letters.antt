@@ -1,5 +1,5 @@
 -- gitignore(5), "PATTERN FORMAT", which gitattributes(5) takes over: in a pattern `\` quotes the byte behind it.
-use Rattle.std.specs.Prelude.{◌≡◌, ℕ, Bool, true, false, not, ◌&&◌, ◌==◌, if◌then◌else◌, List, [], ◌∷◌, ◌++◌, Option, Some, None}
+use Rattle.std.specs.Prelude.{ℕ, Bool, true, false, not, ◌&&◌, ◌==◌, if◌then◌else◌, List, [], ◌∷◌, ◌++◌, Option, Some, None}
 use Rattle.std.specs.Option.{option_map}
 use Rattle.attr_rules.specs.declared.letter.Letter.{Letter}
 

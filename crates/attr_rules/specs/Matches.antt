@@ -1,5 +1,5 @@
 -- gitattributes(5) and gitignore(5), "PATTERN FORMAT": which paths fit a pattern.
-use Rattle.std.specs.Prelude.{◌≡◌, ℕ, ◌==◌, Bool, true, false, if◌then◌else◌, List, [], ◌∷◌, ◌++◌, Option, Some, None, length, slice_index, ◌-◌}
+use Rattle.std.specs.Prelude.{◌≡◌, ℕ, ◌==◌, Bool, true, false, if◌then◌else◌, List, [], ◌∷◌, Some, length, slice_index, ◌-◌}
 use Rattle.std.specs.List.{list_any, after_last}
 use Rattle.attr_rules.specs.declared.letter.Letter.{Letter}
 use Rattle.attr_rules.specs.Letters.{letters_from}

@@ -1,5 +1,5 @@
 -- gitattributes(5), "DESCRIPTION": the attribute `merge` of a path under rule files, the strongest first.
-use Rattle.std.specs.Prelude.{◌≡◌, ℕ, ◌+◌, ◌==◌, Bool, true, false, if◌then◌else◌, List, [], ◌∷◌, Option, Some, None, length, drop, unwrap_or}
+use Rattle.std.specs.Prelude.{◌≡◌, ℕ, ◌+◌, ◌==◌, false, if◌then◌else◌, List, [], ◌∷◌, Option, Some, None, length, drop, unwrap_or}
 use Rattle.std.specs.Option.{option_or}
 use Rattle.seq_base.specs.PathMaps.{is_folder_of}
 use Rattle.attr_rules.specs.declared.attribute.MergeAttr.{MergeAttr}

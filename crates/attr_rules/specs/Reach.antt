@@ -1,5 +1,5 @@
 -- How far a path is taken: for each place of it, whether the pieces so far may end there.
-use Rattle.std.specs.Prelude.{◌≡◌, ℕ, Bool, true, false, not, ◌&&◌, ◌||◌, ◌==◌, if◌then◌else◌, List, [], ◌∷◌, ◌++◌, map}
+use Rattle.std.specs.Prelude.{ℕ, Bool, true, false, not, ◌&&◌, ◌||◌, ◌==◌, List, [], ◌∷◌, map}
 use Rattle.attr_rules.specs.Pieces.{Piece, Byte, AnyByte, OneOf, Star, Folders, Everything, fits_set}
 
 -- it may take nothing

@@ -1,5 +1,5 @@
 -- gitattributes(5), "DESCRIPTION": the lines of a rule file.
-use Rattle.std.specs.Prelude.{◌≡◌, ℕ, ◌-◌, ◌==◌, Bool, true, false, ◌&&◌, ◌||◌, if◌then◌else◌, List, [], ◌∷◌, ◌++◌, Option, Some, None, length, take, slice_index}
+use Rattle.std.specs.Prelude.{ℕ, ◌-◌, ◌==◌, Bool, ◌||◌, if◌then◌else◌, List, [], ◌∷◌, Option, Some, None, length, take, slice_index}
 use Rattle.std.specs.List.{slice_split, filter_map, before_first, after_first}
 use Rattle.attr_rules.specs.declared.rules.Line.{Line}
 

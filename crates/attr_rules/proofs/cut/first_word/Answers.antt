@@ -1,4 +1,4 @@
-use Rattle.std.proofs.Common.{◌∙◌, ◌+◌, ◌≡◌, ℕ, ◌<◌, length, get_or, false, sym, arith}
+use Rattle.std.proofs.Common.{◌∙◌, ◌+◌, sym, arith}
 use Rattle.std.proofs.lemmas.List.{take_rest}
 use Rattle.attr_rules.specs.Rules.{is_blank}
 use Rattle.attr_rules.proofs.Parts.{before_at, after_at, before_none, after_none}

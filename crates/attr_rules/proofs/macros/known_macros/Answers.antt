@@ -1,5 +1,4 @@
-use Rattle.std.proofs.Common.{◌≡◌, ◌∙◌, List, ℕ, length, [], ◌∷◌, ◌++◌, sym, ap, subst, arith}
-use Rattle.attr_rules.specs.declared.macros.Macro.{Macro}
+use Rattle.std.proofs.Common.{◌≡◌, ◌∙◌, List, ℕ, ◌∷◌, ap, arith}
 use Rattle.attr_rules.specs.declared.macros.Known.{Known}
 use Rattle.attr_rules.specs.Attributes.{last_said}
 use Rattle.attr_rules.specs.Known.{told}

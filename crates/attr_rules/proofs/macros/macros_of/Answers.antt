@@ -1,4 +1,4 @@
-use Rattle.std.proofs.Common.{◌≡◌, ◌∙◌, List, ℕ, sym, ap}
+use Rattle.std.proofs.Common.{◌≡◌, ◌∙◌, List, ℕ, ap}
 use Rattle.attr_rules.specs.declared.macros.Macro.{Macro}
 use Rattle.attr_rules.specs.Attributes.{binary}
 use Rattle.attr_rules.proofs.Definitions.{all_read}

@@ -1,5 +1,4 @@
-use Rattle.std.proofs.Common.{◌≡◌, length, suc}
-use Rattle.attr_rules.specs.Matches.{Fits}
+use Rattle.std.proofs.Common.{length}
 use Rattle.attr_rules.proofs.Fitting.{StillFits}
 use Rattle.attr_rules.proofs.matching.fits.Given as goal
 

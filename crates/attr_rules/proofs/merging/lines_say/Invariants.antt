@@ -1,4 +1,4 @@
-use Rattle.std.proofs.Common.{◌≡◌, length, Option}
+use Rattle.std.proofs.Common.{length, Option}
 use Rattle.std.specs.Option.{option_or}
 use Rattle.attr_rules.specs.declared.attribute.MergeAttr.{MergeAttr}
 use Rattle.attr_rules.specs.Known.{told}

@@ -1,9 +1,6 @@
-use Rattle.std.proofs.Common.{◌≡◌, length, arith, rules, refl, sym, ap, ◌∙◌, take, drop}
-use Rattle.std.specs.Prelude.{◌||◌, Bool, List}
+use Rattle.std.proofs.Common.{arith, sym, ◌∙◌}
 use Rattle.std.proofs.lemmas.List.{take_rest}
 use Rattle.std.proofs.lemmas.Bool.Decides.{nat_tests}
-use Rattle.attr_rules.specs.declared.letter.Letter.{Letter}
-use Rattle.attr_rules.specs.Pieces.{is_member}
 use Rattle.attr_rules.proofs.Sets.{range_step, byte_step}
 use Rattle.attr_rules.proofs.piece.first_has.Goals as goal
 use Rattle.attr_rules.proofs.piece.first_has.Goals.{then-low-byte, else-low-byte}

@@ -1,4 +1,4 @@
-use Rattle.std.proofs.Common.{◌≡◌, ℕ, length}
+use Rattle.std.proofs.Common.{◌≡◌, length}
 use Rattle.attr_rules.specs.Pieces.{is_member}
 use Rattle.attr_rules.proofs.piece.is_member.Given as goal
 

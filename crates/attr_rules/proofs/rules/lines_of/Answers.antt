@@ -1,4 +1,4 @@
-use Rattle.std.proofs.Common.{◌∙◌, ◌≡◌, ◌++◌, List, sym, ap}
+use Rattle.std.proofs.Common.{◌∙◌, ◌++◌, List, sym, ap}
 use Rattle.attr_rules.specs.declared.rules.Line.{Line}
 use Rattle.attr_rules.specs.Rules.{lines_of}
 use Rattle.attr_rules.proofs.Parts.{line_kept, line_passed}
