@@ -1,7 +1,7 @@
 //! What the program is started with: its words and its environment.
 
-ghost use Rattle.std.specs.Prelude.{IfOk};
-ghost use Rattle.seq_outside.specs.Env.{IsZone};
+ghost use Rattle.std.specs.Prelude.{◌≡◌, IfOk, codes, if◌then◌else◌};
+ghost use Rattle.seq_outside.specs.Env.{IsZone, is_zone as is_zone_of};
 
 use seq_base::Bytes;
 use seq_outside::{Env, Variables, is_zone};
@@ -64,15 +64,17 @@ pub fn environment<E: rt::Env>(alloc: Global, env: &E) -> Result<Env, AllocError
 const UTC: [u8; 5] = *b"+0000";
 
 fn zone_of(text: &[u8]) -> [u8; 5]
-    ensures { IsZone result }
+    ensures zone { IsZone result }
+    ensures told { result ≡ (if is_zone_of text.now then text.now else codes "+0000") }
 {
-    if let [sign, a, b, c, d] = text {
-        let zone = [*sign, *a, *b, *c, *d];
-        if is_zone(&zone) {
-            return zone;
-        }
+    let [sign, a, b, c, d] = text else {
+        return UTC;
+    };
+    if is_zone(text) {
+        [*sign, *a, *b, *c, *d]
+    } else {
+        UTC
     }
-    UTC
 }
 
 // Doubles the room until the value fits.
@@ -101,3 +103,6 @@ fn fill<E: rt::Env>(env: &E, asked: Asked<'_>, room: &mut [u8]) -> Result<usize,
         Asked::Variable(name) => env.var(name, room),
     }
 }
+
+#[cfg(test)]
+mod tests;
