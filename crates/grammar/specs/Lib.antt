@@ -1,0 +1,5 @@
+pub mod Grammar
+pub mod Lines
+pub mod Readers
+pub mod Keywords
+pub mod Gives
