@@ -9,3 +9,4 @@ pub mod Scans
 pub mod StarLoops
 pub mod Maps
 pub mod LineLaws
+pub mod DecimalLaws

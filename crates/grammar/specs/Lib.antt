@@ -3,3 +3,4 @@ pub mod Lines
 pub mod Readers
 pub mod Keywords
 pub mod Gives
+pub mod Decimals

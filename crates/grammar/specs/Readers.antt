@@ -1,6 +1,6 @@
 -- Reading from the front, as functions on lists: a value and the bytes behind it, or how many bytes are left at the first
 -- fault. Beside each such function stands the relation that it reads: which values the texts of that part spell.
-use Rattle.std.specs.Prelude.{◌≡◌, ℕ, zero, suc, ◌+◌, ◌<◌, Bool, true, false, ◌==◌, nat_lt, drop, if◌then◌else◌, List, [], ◌∷◌, ◌++◌, length, take, Option, Some, None, Result, Ok, Err}
+use Rattle.std.specs.Prelude.{◌≡◌, ℕ, zero, suc, ◌+◌, ◌-◌, ◌<◌, Bool, true, false, ◌==◌, nat_lt, drop, if◌then◌else◌, List, [], ◌∷◌, ◌++◌, length, take, Option, Some, None, Result, Ok, Err}
 use Rattle.std.specs.List.{list_all}
 use Rattle.grammar.specs.Grammar.{AllBytes, GoesOn}
 
@@ -57,6 +57,13 @@ Nothing z w text = (w ≡ z) × (text ≡ [])
 
 abbrev pub nothing_at : {Z : Type 0} → Z → List ℕ → Result (Z × List ℕ) ℕ
 nothing_at z bytes = Ok (z, bytes)
+
+-- the bytes themselves that spell something
+abbrev pub TextOf : {X : Type 0} → (X → List ℕ → Type 0) → List ℕ → List ℕ → Type 0
+TextOf {X} spells x text = (value : X) × spells value text × (text ≡ x)
+
+abbrev pub text_at : {X : Type 0} → (List ℕ → Result (X × List ℕ) ℕ) → List ℕ → Result (List ℕ × List ℕ) ℕ
+text_at read bytes = read bytes >>= λ x. Ok (take (length bytes - length x.1) bytes, x.1)
 
 -- ---- a word up to a byte that ends it
 

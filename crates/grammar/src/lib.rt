@@ -2,12 +2,14 @@
 #![tactic(auto)]
 
 mod bytes;
+mod decimals;
 mod fault;
 mod fields;
 mod lines;
 mod scan;
 
 pub use bytes::{ByteTest, PassingBytes};
+pub use decimals::{capped_value, decimal_of};
 pub use fault::ReadError;
 pub use fields::{behind_literal, passing_front, word_of};
 pub use lines::line_of_place;

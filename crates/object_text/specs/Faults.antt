@@ -1,0 +1,11 @@
+-- What a reader answers where bytes spell nothing.
+use Rattle.std.specs.Prelude.{◌≡◌, ℕ, ◌<◌, ⊥, List, length}
+use Rattle.grammar.specs.Grammar.{IsFirstBad}
+use Rattle.object_text.specs.declared.fault.TextFault.{TextFault}
+use Rattle.object_text.specs.declared.fault.TextFault.TheVariants.{Bad, Parents, Memory}
+
+-- the first bad byte, or want of memory
+abbrev pub IsTextFault : {X : Type 0} → (X → List ℕ → Type 0) → List ℕ → TextFault → Type 0
+IsTextFault spells bytes (Bad at) = IsFirstBad spells bytes at
+IsTextFault spells bytes (Parents count) = ⊥
+IsTextFault spells bytes Memory = Unit {0}

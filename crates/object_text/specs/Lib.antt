@@ -1,0 +1,5 @@
+pub mod Faults
+pub mod Objects
+pub mod Trees
+pub mod Idents
+pub mod Commits
