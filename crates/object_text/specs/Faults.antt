@@ -1,5 +1,5 @@
 -- What a reader answers where bytes spell nothing.
-use Rattle.std.specs.Prelude.{◌≡◌, ℕ, ◌<◌, ⊥, List, length}
+use Rattle.std.specs.Prelude.{◌≡◌, ℕ, ◌<◌, List, length}
 use Rattle.grammar.specs.Grammar.{IsFirstBad}
 use Rattle.object_text.specs.declared.fault.TextFault.{TextFault}
 use Rattle.object_text.specs.declared.fault.TextFault.TheVariants.{Bad, Parents, Memory}

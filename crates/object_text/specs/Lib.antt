@@ -3,3 +3,4 @@ pub mod Objects
 pub mod Trees
 pub mod Idents
 pub mod Commits
+pub mod ReadTrees

@@ -5,8 +5,9 @@ mod commit;
 mod fault;
 mod object;
 mod tree;
+mod tree_name;
 
 pub use commit::{Commit, Ids};
 pub use fault::TextFault;
 pub use object::{Kind, Object};
-pub use tree::TreeEntry;
+pub use tree::{TreeEntry, parse_tree, tree_text};
