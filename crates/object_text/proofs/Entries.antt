@@ -219,9 +219,9 @@ tree_more bytes es rest e after some read l =
     let more = loop_more IsTreeSoFar any_byte grown Each (λ s. End) entry_from (λ s rest. end_at rest) is_star _ es (reverse es) rest e after (begins_rest rest some) read l in
     let state : reverse (es ++ e ∷ []) ≡ e ∷ reverse es = reverse-append es (e ∷ []) in (
       subst
-      (λ (s : List TreeEntry). Loop IsTreeSoFar any_byte grown Each (λ s. End) entry_from (λ s rest. end_at rest) is_star
-        (star_at any_byte grown entry_from (λ s rest. end_at rest) (length bytes) [] bytes) (es ++ e ∷ []) s after)
-      (sym state) more.0,
+          (λ (s : List TreeEntry). Loop IsTreeSoFar any_byte grown Each (λ s. End) entry_from (λ s rest. end_at rest) is_star
+          (star_at any_byte grown entry_from (λ s rest. end_at rest) (length bytes) [] bytes) (es ++ e ∷ []) s after)
+          (sym state) more.0,
       more.1,
     )
 

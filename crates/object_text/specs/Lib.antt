@@ -4,3 +4,8 @@ pub mod Trees
 pub mod Idents
 pub mod Commits
 pub mod ReadTrees
+pub mod ReadIdents
+pub mod ReadCommits
+pub mod ReadObjects
+pub mod Store
+pub mod TreeMaps
