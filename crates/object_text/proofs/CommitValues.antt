@@ -1,14 +1,10 @@
 -- Commits that some text spells, and the text that is written of them.
-use Rattle.std.proofs.Common.{◌≡◌, ℕ, zero, suc, ◌+◌, ◌<◌, ◌≤◌, Bool, true, false, cond, not, ◌&&◌, ◌||◌, eqb, List, [], ◌∷◌, ◌++◌, length, drop, Option, Some, None, refl, sym, ap, subst, ◌∙◌, append_assoc, arith}
+use Rattle.std.proofs.Common.{◌≡◌, ℕ, zero, suc, Bool, true, false, cond, not, eqb, List, [], ◌∷◌, ◌++◌, length, drop, Some, refl, sym, subst}
 use Rattle.std.specs.Prelude.{codes}
-use Rattle.std.specs.List.{list_all, flat_map, starts_with}
-use Rattle.std.proofs.lemmas.List.{append-nil, length-append}
-use Rattle.std.proofs.lemmas.List.Concat.{flat_map-cons}
-use Rattle.std.proofs.lemmas.List.Folds.{list_all-append}
-use Rattle.std.proofs.lemmas.Bool.{eqb-true, eqb-false, eq-eqb, ne_eqb}
+use Rattle.std.specs.List.{list_all, starts_with}
 use Rattle.grammar.proofs.Passing.{and_true}
 use Rattle.object_text.specs.declared.commit.Commit.{Commit}
-use Rattle.object_text.specs.Commits.{line, is_in_line, is_continuation, is_header_line, AreHeaders, continued, encoding_of, is_header_value, IsEncoding, IsCommit, IsCommitValue}
+use Rattle.object_text.specs.Commits.{is_in_line, is_continuation, is_header_line, AreHeaders, continued, encoding_of, is_header_value, IsEncoding, IsCommit, IsCommitValue}
 
 -- lines that continue a header may stand behind bytes of one line
 continued_value : (hs : List (List ℕ)) → list_all is_header_line hs ≡ true → (is_header_value (continued hs) ≡ true) × ((a : List ℕ) → list_all is_in_line a ≡ true → is_header_value (a ++ continued hs) ≡ true)
