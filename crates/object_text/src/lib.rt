@@ -14,3 +14,6 @@ pub use commit::{Commit, Ids, parse_commit};
 pub use fault::TextFault;
 pub use object::{Kind, Object, object_text, parse_object};
 pub use tree::{TreeEntry, parse_tree, tree_text};
+
+#[cfg(test)]
+mod tests;
