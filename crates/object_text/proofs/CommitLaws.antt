@@ -1,5 +1,5 @@
 -- Reading commits.
-use Rattle.std.proofs.Common.{◌≡◌, ℕ, zero, suc, ◌+◌, ◌-◌, ◌<◌, ◌≤◌, ◌%◌, Bool, true, false, cond, not, ◌&&◌, ◌||◌, eqb, List, [], ◌∷◌, ◌++◌, length, get_or, Option, Some, None, Result, Ok, Err, refl, sym, ap, subst, ◌∙◌, append_assoc, arith}
+use Rattle.std.proofs.Common.{◌≡◌, ℕ, ◌+◌, ◌<◌, ◌%◌, Bool, true, false, cond, not, ◌&&◌, ◌||◌, eqb, List, [], ◌∷◌, ◌++◌, length, get_or, Option, Some, None, Result, Ok, Err, refl, sym, ap, subst, ◌∙◌, append_assoc, arith}
 use Rattle.std.specs.Prelude.{codes}
 use Rattle.std.specs.List.{list_all, flat_map}
 use Rattle.std.specs.Result.{result_unwrap_or}
@@ -8,7 +8,7 @@ use Rattle.std.proofs.lemmas.List.Concat.{flat_map-cons}
 use Rattle.std.proofs.lemmas.List.Folds.{list_all-append}
 use Rattle.std.proofs.lemmas.List.Sums.{AllPass-from_list_all, list_all-from_AllPass}
 use Rattle.std.proofs.lemmas.Bool.{ne_eqb}
-use Rattle.hex.specs.Hex.{decode_of, is_hex_digit}
+use Rattle.hex.specs.Hex.{is_hex_digit}
 use Rattle.hex.proofs.HexLemmas.{decode_of-ok, decode_of-digits}
 use Rattle.grammar.specs.Grammar.{AllBytes}
 use Rattle.grammar.specs.Readers.{◌>>=◌, span_at, Reads, ReadsAll, HasText, Then, then_at, then_all, Nothing, nothing_at, Word, IsWord, Passing, passing_at, Literal, literal_at, Rest, Star, star_at, IsStar, BeginsWith, BeginsOtherwise}
@@ -17,13 +17,12 @@ use Rattle.grammar.proofs.Words.{valued_reads, valued_of, valued_err, span_may}
 use Rattle.grammar.specs.Gives.{Fails}
 use Rattle.grammar.specs.declared.fault.ReadError.{ReadError}
 use Rattle.grammar.specs.declared.fault.ReadError.TheVariants as errors
-use Rattle.grammar.proofs.FieldLaws.{literal_reads, literal_has, rest_reads, reads_same, reads_all_same}
+use Rattle.grammar.proofs.FieldLaws.{literal_reads, rest_reads, reads_same, reads_all_same}
 use Rattle.grammar.proofs.Passing.{and_true, passing_reads, passing_has}
 use Rattle.grammar.proofs.Maps.{mapped, all_mapped}
 use Rattle.grammar.proofs.Stars.{star_reads}
 use Rattle.seq_base.specs.Ids.{SpellsId}
 use Rattle.object_text.specs.declared.commit.Commit.{Commit}
-use Rattle.object_text.specs.Idents.{IsIdent}
 use Rattle.object_text.specs.Commits.{line, is_in_line, is_continuation, is_header_line, AreHeaders, encoding_of, SpellIds, IsCommit}
 use Rattle.object_text.specs.ReadIdents.{ident_from}
 use Rattle.object_text.specs.ReadCommits.{id_of, id_from, keyed_from, tree_line_from, parent_line_from, author_line_from, committer_line_from, may_header, header_value, header_from, message_from, has_header, headers_from, tail_from, is_p, added, made, people_from, parents_from, commit_from}

@@ -1,14 +1,12 @@
 -- Entries, and trees of them.
-use Rattle.std.proofs.Common.{◌≡◌, ℕ, zero, suc, ◌+◌, ◌-◌, ◌<◌, ◌≤◌, Bool, true, false, not, ◌&&◌, eqb, List, [], ◌∷◌, ◌++◌, length, take, drop, reverse, Option, Some, None, Result, Ok, Err, refl, sym, ap, subst, ◌∙◌, append_assoc, arith}
-use Rattle.std.specs.List.{AllByRecursion, flat_map}
-use Rattle.std.specs.Str.{bytes_eq}
+use Rattle.std.proofs.Common.{◌≡◌, ℕ, suc, ◌<◌, true, false, eqb, List, [], ◌∷◌, ◌++◌, length, reverse, Result, Ok, refl, sym, ap, subst, ◌∙◌, append_assoc, arith}
+use Rattle.std.specs.List.{AllByRecursion}
 use Rattle.std.proofs.lemmas.List.{append-nil, length-append, reverse-append}
 use Rattle.std.proofs.lemmas.Bool.{eqb-true}
 use Rattle.std.proofs.lemmas.List.Concat.{flat_map-cons}
-use Rattle.grammar.specs.Grammar.{AllBytes, GoesOn, IsFirstBad}
-use Rattle.grammar.specs.Readers.{◌>>=◌, Reads, ReadsAll, Stops, HasText, Then, Nothing, Word, Front, End, end_at, then_at, front_at, nothing_at, Star, star_at, begins, IsStar, BeginsWith, BeginsOtherwise}
+use Rattle.grammar.specs.Readers.{◌>>=◌, Reads, ReadsAll, HasText, Then, Nothing, Word, Front, End, end_at, then_at, front_at, nothing_at, Star, star_at, begins, IsStar, BeginsWith, BeginsOtherwise}
 use Rattle.grammar.specs.Keywords.{may_of, value_of}
-use Rattle.grammar.proofs.Laws.{AllBytes-append, ok_is, then_reads, nothing_reads}
+use Rattle.grammar.proofs.Laws.{AllBytes-append, then_reads, nothing_reads}
 use Rattle.grammar.proofs.Words.{valued_reads, word_has}
 use Rattle.grammar.proofs.FieldLaws.{front_reads, front_has, end_reads, reads_same}
 use Rattle.grammar.proofs.Keywords.{value_text}
@@ -20,7 +18,6 @@ use Rattle.grammar.specs.declared.fault.ReadError.{ReadError}
 use Rattle.grammar.specs.declared.fault.ReadError.TheVariants as errors
 use Rattle.seq_base.specs.declared.mode.Mode.{Mode}
 use Rattle.seq_base.specs.Modes.{mode_text}
-use Rattle.seq_base.specs.PathMaps.{is_less}
 use Rattle.object_text.specs.declared.tree.TreeEntry.{TreeEntry}
 use Rattle.object_text.specs.Trees.{entry_text, tree_text, key, is_name, IsBefore, IsTreeOrder, HaveIds, IsTree}
 use Rattle.object_text.specs.ReadTrees.{modes, mode_from, name_from, name_value, may_name, last_key, is_new, IsTreeSoFar, entry_from, tree_from, grown, any_byte}

@@ -1,16 +1,16 @@
 -- Reading who made a commit and when.
-use Rattle.std.proofs.Common.{◌≡◌, ℕ, zero, suc, ◌+◌, ◌-◌, ◌^◌, ◌<◌, ◌≤◌, Bool, true, false, cond, not, ◌&&◌, ◌||◌, eqb, leb, List, [], ◌∷◌, ◌++◌, length, take, get_or, Option, Some, None, Result, Ok, Err, refl, sym, ap, subst, ◌∙◌, append_assoc, arith}
+use Rattle.std.proofs.Common.{◌≡◌, ℕ, zero, suc, ◌+◌, ◌-◌, ◌^◌, ◌<◌, ◌≤◌, Bool, true, false, cond, not, ◌&&◌, eqb, leb, List, [], ◌∷◌, ◌++◌, length, take, get_or, Some, None, Result, Ok, refl, sym, ap, subst, ◌∙◌, append_assoc, arith}
 use Rattle.std.specs.Prelude.{codes}
 use Rattle.std.specs.Char.{is_ascii_digit}
 use Rattle.std.specs.List.{list_all}
 use Rattle.std.specs.Str.Parse.{digits_value}
 use Rattle.std.proofs.lemmas.List.{append-nil, length-append, take_at, take_all, take_more}
 use Rattle.std.proofs.lemmas.List.Folds.{list_all-append}
-use Rattle.std.proofs.lemmas.Bool.{eqb-true, eqb-false, eq-eqb, ne_eqb, leb-true, le-leb}
+use Rattle.std.proofs.lemmas.Bool.{eqb-true, ne_eqb, leb-true, le-leb}
 use Rattle.std.proofs.lemmas.Str.Parse.{digits_value-take-le}
 use Rattle.grammar.specs.Grammar.{AllBytes}
 use Rattle.grammar.specs.Decimals.{is_decimal_front}
-use Rattle.grammar.specs.Readers.{◌>>=◌, Reads, HasText, Then, then_at, TextOf, text_at, Word, IsWord, Run, run_at, Literal, literal_at, Passing, passing_at}
+use Rattle.grammar.specs.Readers.{◌>>=◌, Reads, HasText, Then, then_at, TextOf, Word, IsWord, Run, run_at, Literal, literal_at, Passing, passing_at}
 use Rattle.grammar.proofs.Laws.{AllBytes-append, then_reads}
 use Rattle.grammar.proofs.Words.{valued_reads, word_has, valued_of, span_may}
 use Rattle.grammar.specs.Gives.{Fails}

@@ -2,13 +2,12 @@
 use Rattle.std.proofs.Common.{◌≡◌, ℕ, List, Option, Some, None, refl, arith, ap, ◌∙◌}
 use Rattle.std.specs.Prelude.{MatchOption}
 use Rattle.grammar.specs.Keywords.{value_of, may_of}
-use Rattle.grammar.specs.Readers.{IsWord, Word, Reads, HasText}
+use Rattle.grammar.specs.Readers.{IsWord}
 use Rattle.grammar.proofs.Keywords.{HaveTexts, keywords, value_none}
-use Rattle.grammar.proofs.Words.{word_has}
 use Rattle.seq_base.specs.declared.mode.Mode.{Mode}
 use Rattle.seq_base.specs.declared.mode.Mode.TheVariants.{File, Exec, Link, Gitlink, Folder}
 use Rattle.seq_base.specs.Modes.{mode_text}
-use Rattle.object_text.specs.ReadTrees.{modes, mode_from}
+use Rattle.object_text.specs.ReadTrees.{modes}
 
 pub mode_value : (m : Mode) → value_of modes (mode_text m) ≡ Some m
 mode_value File = refl

@@ -1,5 +1,5 @@
 -- Reading objects.
-use Rattle.std.proofs.Common.{◌≡◌, ℕ, zero, suc, ◌+◌, ◌-◌, ◌^◌, ◌<◌, ◌≤◌, Bool, true, false, cond, ltb, List, [], ◌∷◌, ◌++◌, length, take, drop, Option, Some, None, Result, Ok, Err, refl, sym, ap, subst, ◌∙◌, append_assoc, arith, ◌⊎◌, inl, inr}
+use Rattle.std.proofs.Common.{◌≡◌, ℕ, zero, suc, ◌-◌, ◌^◌, ◌<◌, Bool, true, false, cond, ltb, List, [], ◌∷◌, ◌++◌, length, take, drop, Option, Some, None, Result, Ok, Err, refl, sym, ap, subst, ◌∙◌, append_assoc, arith, inl, inr}
 use Rattle.std.specs.Prelude.{MatchOption, decimal}
 use Rattle.std.proofs.lemmas.List.{append-nil, length-append, take-append-drop, length-take, length-drop}
 use Rattle.std.proofs.lemmas.Bool.{ltb-true, ltb-false, le-ltb, lt-ltb}
@@ -8,14 +8,14 @@ use Rattle.grammar.specs.Decimals.{decimal_value, decimal_at, capped, capped_dec
 use Rattle.grammar.specs.Gives.{Fails}
 use Rattle.grammar.specs.declared.fault.ReadError.{ReadError}
 use Rattle.grammar.specs.declared.fault.ReadError.TheVariants as errors
-use Rattle.grammar.specs.Readers.{◌>>=◌, NoneGoesOn, Stops, Reads, ReadsAll, HasText, Then, then_all, Word, valued_at, IsWord}
+use Rattle.grammar.specs.Readers.{◌>>=◌, NoneGoesOn, Stops, ReadsAll, HasText, Then, Word, IsWord}
 use Rattle.grammar.specs.Keywords.{may_of, value_of}
 use Rattle.grammar.proofs.DecimalLaws.{decimal_reads, decimal_has, decimal_value-decimal}
 use Rattle.grammar.proofs.FieldLaws.{reads_all_same}
 use Rattle.grammar.proofs.Keywords.{HaveTexts, keywords, value_text, value_none}
 use Rattle.grammar.proofs.Laws.{AllBytes-append, ok_is, bind_ok, bind_err, then_reads_all}
 use Rattle.grammar.proofs.Maps.{all_mapped}
-use Rattle.grammar.proofs.Words.{valued_reads, word_has}
+use Rattle.grammar.proofs.Words.{valued_reads}
 use Rattle.object_text.specs.declared.object.Kind.{Kind}
 use Rattle.object_text.specs.declared.object.Kind.TheVariants.{Blob, Tree, Commit, Tag}
 use Rattle.object_text.specs.declared.object.Object.{Object}

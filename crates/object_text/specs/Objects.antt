@@ -1,5 +1,5 @@
 -- The text of an object, `<kind> SP <length> NUL <content>` (Pro Git 10.2, "Object Storage"; git-cat-file(1) names the kinds).
-use Rattle.std.specs.Prelude.{◌≡◌, ℕ, List, [], ◌∷◌, ◌++◌, length, codes, decimal, Some}
+use Rattle.std.specs.Prelude.{◌≡◌, ℕ, List, ◌∷◌, ◌++◌, length, codes, decimal, Some}
 use Rattle.grammar.specs.Decimals.{decimal_value}
 use Rattle.object_text.specs.declared.object.Kind.{Kind}
 use Rattle.object_text.specs.declared.object.Kind.TheVariants.{Blob, Tree, Commit, Tag}

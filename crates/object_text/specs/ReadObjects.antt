@@ -1,5 +1,5 @@
 -- Reading an object from left to right.
-use Rattle.std.specs.Prelude.{◌≡◌, ℕ, ◌-◌, nat_lt, if◌then◌else◌, List, [], ◌∷◌, length, Result, Ok, Err}
+use Rattle.std.specs.Prelude.{ℕ, ◌-◌, nat_lt, if◌then◌else◌, List, [], ◌∷◌, length, Result, Ok, Err}
 use Rattle.grammar.specs.Decimals.{decimal_at}
 use Rattle.grammar.specs.Keywords.{may_of, value_of}
 use Rattle.grammar.specs.Readers.{◌>>=◌, valued_at}

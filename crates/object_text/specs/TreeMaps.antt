@@ -1,5 +1,5 @@
 -- Trees of trees as maps from paths (git-ls-tree(1), -r), and the trees of a map (git-write-tree(1)).
-use Rattle.std.specs.Prelude.{◌≡◌, ℕ, zero, suc, ◌+◌, Bool, true, false, not, ◌&&◌, ◌==◌, nat_le, if◌then◌else◌, List, [], ◌∷◌, ◌++◌, length, map, sum_by, take, drop, Option, Some, None, Result, Ok, Err}
+use Rattle.std.specs.Prelude.{ℕ, zero, suc, ◌+◌, Bool, true, false, not, ◌&&◌, ◌==◌, nat_le, if◌then◌else◌, List, [], ◌∷◌, ◌++◌, length, map, sum_by, take, drop, Option, Some, None, Result, Ok, Err}
 use Rattle.std.specs.List.{filter, list_all, starts_with, position_or_len}
 use Rattle.std.specs.Str.Lossy.{utf8_valid_len}
 use Rattle.seq_base.specs.World.{World}

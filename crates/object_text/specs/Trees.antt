@@ -1,5 +1,5 @@
 -- The content of a tree (git-mktree(1), git-ls-tree(1); Pro Git 10.2, "Tree Objects"; the order is that of git-fsck(1), "treeNotSorted").
-use Rattle.std.specs.Prelude.{◌≡◌, ℕ, ◌<◌, Bool, true, false, not, ◌&&◌, ◌==◌, nat_lt, List, [], ◌∷◌, ◌++◌, length}
+use Rattle.std.specs.Prelude.{◌≡◌, ℕ, Bool, true, false, not, ◌&&◌, ◌==◌, nat_lt, List, [], ◌∷◌, ◌++◌, length}
 use Rattle.std.specs.List.{AllByRecursion, flat_map, list_all}
 use Rattle.std.specs.Str.{bytes_eq}
 use Rattle.seq_base.specs.declared.mode.Mode.{Mode}

@@ -1,4 +1,4 @@
-use Rattle.std.proofs.Common.{◌≡◌, ℕ, ◌++◌, List, sym, ◌∙◌, subst}
+use Rattle.std.proofs.Common.{ℕ, List, sym, ◌∙◌, subst}
 use Rattle.object_text.proofs.CommitLoops.{ParentsLoop, parent_more, parent_fails, parents_last}
 use Rattle.object_text.proofs.commit.parents_of.Goals as goal
 

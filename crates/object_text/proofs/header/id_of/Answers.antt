@@ -1,4 +1,3 @@
-use Rattle.std.proofs.Common.{◌≡◌, ℕ, ◌<◌, List, length, true, false}
 use Rattle.std.proofs.lemmas.Result.{err_from_is_err_and}
 use Rattle.object_text.proofs.CommitLaws.{hex_digits, id_ok, id_err}
 use Rattle.object_text.proofs.header.id_of.Goals as goal

@@ -1,6 +1,6 @@
-use Rattle.std.proofs.Common.{◌≡◌, ℕ, List, Some, None, Ok, ap, sym, ◌∙◌, subst}
+use Rattle.std.proofs.Common.{ℕ, List, Ok, ap, sym, ◌∙◌}
 use Rattle.std.proofs.lemmas.Result.{err_from_is_err_and}
-use Rattle.object_text.proofs.CommitLoops.{HeadersLoop, headers_none, header_more, header_fails, tail_ok, tail_fails, takes_none, takes_all}
+use Rattle.object_text.proofs.CommitLoops.{header_more, header_fails, tail_ok, tail_fails, takes_all}
 use Rattle.object_text.proofs.headers.tail_of.Goals as goal
 
 pub returns-in_err-line : goal.returns-in_err-line

@@ -1,4 +1,4 @@
-use Rattle.std.proofs.Common.{◌≡◌, ℕ, ◌<◌, ◌-◌, ◌^◌, length, arith, Err, ap, sym, ◌∙◌}
+use Rattle.std.proofs.Common.{ℕ, ◌<◌, ◌-◌, ◌^◌, length, arith, Err, ap, sym, ◌∙◌}
 use Rattle.std.proofs.lemmas.Result.{err_from_is_err_and}
 use Rattle.object_text.proofs.ObjectLaws.{size_err, size_short, size_long, size_fits}
 use Rattle.object_text.proofs.object.sized_of.Goals as goal

@@ -1,4 +1,4 @@
-use Rattle.std.proofs.Common.{◌≡◌, ℕ, Bool, true, false, cond, List, reverse, Option, Some, None, Result, Ok, Err, sym, ◌∙◌, ap, refl}
+use Rattle.std.proofs.Common.{◌≡◌, ℕ, Bool, cond, List, reverse, Some, None, Result, Ok, sym, ◌∙◌, ap, refl}
 use Rattle.grammar.specs.Readers.{◌>>=◌, ended, span_at}
 use Rattle.seq_base.specs.declared.mode.Mode.{Mode}
 use Rattle.object_text.specs.declared.tree.TreeEntry.{TreeEntry}

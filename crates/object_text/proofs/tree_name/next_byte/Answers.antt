@@ -1,5 +1,5 @@
-use Rattle.std.proofs.Common.{◌≡◌, ℕ, ◌<◌, ◌-◌, Bool, true, false, cond, eqb, ltb, get_or, length, sym, ◌∙◌, ap, subst, refl, arith}
-use Rattle.std.proofs.lemmas.Bool.{eq-eqb, ne_eqb, lt-ltb, le-ltb}
+use Rattle.std.proofs.Common.{◌≡◌, ℕ, ◌<◌, ◌-◌, false, eqb, ltb, get_or, length, sym, ◌∙◌, ap, refl, arith}
+use Rattle.std.proofs.lemmas.Bool.{ne_eqb, le-ltb}
 use Rattle.object_text.proofs.Tied.{untied, ended, tied, last_is, parts_of, on, off, at_most}
 use Rattle.object_text.proofs.tree_name.next_byte.Goals as goal
 
