@@ -2,6 +2,7 @@
 #![tactic(auto)]
 
 mod commit;
+mod commit_write;
 mod fault;
 mod header;
 mod headers;
@@ -11,6 +12,7 @@ mod tree;
 mod tree_name;
 
 pub use commit::{Commit, Ids, parse_commit};
+pub use commit_write::commit_text;
 pub use fault::TextFault;
 pub use object::{Kind, Object, object_text, parse_object};
 pub use tree::{TreeEntry, parse_tree, tree_text};
