@@ -1,0 +1,8 @@
+//! Graphs of commits, and in `specs/` their ancestors, merge bases and ranges.
+#![tactic(auto)]
+
+mod graph;
+mod ids;
+
+pub use graph::{Graph, GraphFault, Node};
+pub use ids::Ids;
