@@ -3,3 +3,13 @@ pub mod HexLengths
 pub mod Parts
 pub mod Maps
 pub mod Shape
+pub mod Texts
+pub mod StorePathLemmas
+pub mod Below
+pub mod HexCases
+pub mod PlainParts
+pub mod Lookups
+pub mod Places
+pub mod Objects
+pub mod Repositories
+pub mod Rests

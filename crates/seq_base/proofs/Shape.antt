@@ -9,6 +9,9 @@ use Rattle.std.specs.Ordering.{eq_by_cmp, is_eq}
 use Rattle.std.specs.Prelude.{is_some}
 use Rattle.std.specs.declared.cmp.Ordering.{Ordering}
 use Rattle.std.specs.declared.cmp.Ordering.TheVariants.{Less, Equal, Greater}
+use Rattle.std.proofs.lemmas.Bool.{or_from, or_left, or_right}
+use Rattle.std.proofs.lemmas.Map.Text.{is_eq-slice_cmp}
+use Rattle.std.proofs.lemmas.Slice.Eq.{bytes_eq-Decides}
 use Rattle.seq_base.specs.World.{World, IsWorld, path_cmp, is_blocked, is_below}
 
 is_equal : (o : Ordering) → is_eq o ≡ true → o ≡ Equal
@@ -16,7 +19,7 @@ is_equal Equal h = refl
 is_equal Less h = cc
 is_equal Greater h = cc
 
-same_path : (p q : List ℕ) → eq_by_cmp path_cmp p q ≡ true → p ≡ q
+pub same_path : (p q : List ℕ) → eq_by_cmp path_cmp p q ≡ true → p ≡ q
 same_path p q h = slice_cmp-IsAntisymmetric nat_cmp-IsAntisymmetric p q (is_equal (path_cmp p q) h)
 
 neither : (a b : Bool) → a || b ≡ false → (a ≡ false) × (b ≡ false)
@@ -38,9 +41,26 @@ free_of w path file free there =
     neither (is_below path file) (is_below file path)
     (none_passes (λ k. is_below path k || is_below k path) file (map.keys w) (sym (contains_key-keys w file) ∙ there) free)
 
-after : (w : World) (path bytes q : List ℕ) (b : Bool) → eq_by_cmp path_cmp q path ≡ b → map.contains_key (map.insert w path bytes) q ≡ true → cond b (q ≡ path) (map.contains_key w q ≡ true)
+pub after : (w : World) (path bytes q : List ℕ) (b : Bool) → eq_by_cmp path_cmp q path ≡ b → map.contains_key (map.insert w path bytes) q ≡ true → cond b (q ≡ path) (map.contains_key w q ≡ true)
 after w path bytes q true e there = same_path q path e
 after w path bytes q false e there = sym (ap is_some (get-insert nat_list_cmp_total w path bytes q) ∙ ap (λ b. is_some (cond b (Some bytes) (map.get w q))) e) ∙ there
+
+pub equal_to_itself : (p : List ℕ) → eq_by_cmp path_cmp p p ≡ true
+equal_to_itself p = is_eq-slice_cmp p p ∙ (bytes_eq-Decides p p).1 refl
+
+-- a test that fails at each path of a list
+fails_at_all : (test : List ℕ → Bool) (ks : List (List ℕ)) → ((q : List ℕ) → list_any (eq_by_cmp path_cmp q) ks ≡ true → test q ≡ false) → list_any test ks ≡ false
+fails_at_all test [] h = refl
+fails_at_all test (k ∷ ks) h =
+    or_from (test k) (list_any test ks)
+    (h k (or_left (eq_by_cmp path_cmp k k) (list_any (eq_by_cmp path_cmp k) ks) (equal_to_itself k)))
+    (fails_at_all test ks (λ q there. h q (or_right (eq_by_cmp path_cmp q k) (list_any (eq_by_cmp path_cmp q) ks) there)))
+
+-- a path is free where no file stands in its way
+pub free_from : (w : World) (path : List ℕ) → ((file : List ℕ) → map.contains_key w file ≡ true → (is_below path file ≡ false) × (is_below file path ≡ false)) → is_blocked w path ≡ false
+free_from w path h =
+    fails_at_all (λ file. is_below path file || is_below file path) (map.keys w) (λ file among.
+    let apart = h file (contains_key-keys w file ∙ among) in or_from (is_below path file) (is_below file path) apart.0 apart.1)
 
 past_end : (p : List ℕ) → slice_index p (length p) ≡ 0
 past_end [] = refl
@@ -68,7 +88,7 @@ stays_world w path bytes shaped free folder file has_folder has_file =
       ] b
     ] a
 
-there_after_remove : (w : World) (path q : List ℕ) → map.contains_key (map.remove w path) q ≡ true → map.contains_key w q ≡ true
+pub there_after_remove : (w : World) (path q : List ℕ) → map.contains_key (map.remove w path) q ≡ true → map.contains_key w q ≡ true
 there_after_remove w path q there =
     elim (eq_by_cmp path_cmp q path) as (λ b. is_some (cond b None (map.get w q)) ≡ true → map.contains_key w q ≡ true) [
       | true ↦ λ h. cc
@@ -95,10 +115,6 @@ or_false false h = h
 either : (a b : Bool) → a || b ≡ true → (a ≡ true) ⊎ (b ≡ true)
 either true b h = inl refl
 either false b h = inr h
-
-or_right : (a b : Bool) → b ≡ true → a || b ≡ true
-or_right true b h = refl
-or_right false b h = h
 
 or_none : (a b : Bool) → a ≡ false → b ≡ false → a || b ≡ false
 or_none true b h k = h

@@ -5,4 +5,7 @@ pub mod Paths
 pub mod PathMaps
 pub mod InsertFaults
 pub mod World
+pub mod StorePaths
 pub mod Steps
+pub mod StatePaths
+pub mod Repository

@@ -1,10 +1,19 @@
--- Paths.
-use Rattle.std.specs.Prelude.{◌≡◌, ℕ, ◌+◌, ◌<◌, ◌≤◌, Bool, not, ◌&&◌, ◌||◌, ◌==◌, if◌then◌else◌, List, [], ◌∷◌, length, codes, map, Option, Some, None}
+-- Paths that a tree or an index may hold (git-fsck(1), "FSCK MESSAGES": emptyName, hasDot, hasDotdot, hasDotgit).
+use Rattle.std.specs.Prelude.{◌≡◌, ◌≢◌, ℕ, ◌+◌, ◌<◌, ◌≤◌, Bool, not, ◌&&◌, ◌||◌, ◌==◌, if◌then◌else◌, List, [], ◌∷◌, ◌++◌, length, codes, map, Option, Some, None, All, Contains}
 use Rattle.std.specs.Char.{to_ascii_lowercase}
-use Rattle.std.specs.List.{list_all, slice_split}
+use Rattle.std.specs.List.{list_all, flat_map, slice_split}
 use Rattle.std.specs.Str.{bytes_eq, IsUtf8, IsValidUpTo}
 use Rattle.seq_base.specs.declared.path.PathFault.{PathFault}
 use Rattle.seq_base.specs.declared.path.PathFault.TheVariants.{Empty, TooLong, NotUtf8, BadPart, Memory}
+
+-- a part of a path that leads to what it names, and neither outside nor into `.git`
+pub record IsPlainPart (part : List ℕ) : Type 0 where
+  pub some : part ≢ []
+  pub here : part ≢ codes "."
+  pub above : part ≢ codes ".."
+  pub git : map to_ascii_lowercase part ≢ codes ".git"
+  pub no_nul : Contains part 0 → ⊥
+  pub no_slash : Contains part 47 → ⊥
 
 -- `.`, `..` and `.git` in any case lead elsewhere
 abbrev pub is_special : List ℕ → Bool
@@ -20,6 +29,16 @@ parts bytes = slice_split (λ b. b == 47) bytes
 abbrev pub first_bad : ℕ → List (List ℕ) → Option ℕ
 first_bad at [] = None
 first_bad at (p ∷ ps) = if is_part p then first_bad (at + length p + 1) ps else Some at
+
+-- at is where the first part begins that is not plain: behind the parts before it, each with its slash
+pub record IsFirstBad (bytes : List ℕ) (at : ℕ) : Type 0 where
+  pub good : List (List ℕ)
+  pub bad : List ℕ
+  pub after : List (List ℕ)
+  pub split : parts bytes ≡ good ++ bad ∷ after
+  pub plain : All IsPlainPart good
+  pub not_plain : IsPlainPart bad → ⊥
+  pub place : at ≡ length (flat_map (λ part. part ++ 47 ∷ []) good)
 
 pub record IsPath (bytes : List ℕ) : Type 0 where
   pub some : 0 < length bytes

@@ -1,5 +1,5 @@
 -- A world: what a store holds, as a finite map from store path to bytes.
-use Rattle.std.specs.Prelude.{◌≡◌, ℕ, ◌-◌, ◌<◌, ◌^◌, min, Bool, false, true, ◌||◌, ◌&&◌, ◌==◌, nat_eq, length, slice_index, List}
+use Rattle.std.specs.Prelude.{◌≡◌, ℕ, Bool, false, true, ◌||◌, ◌&&◌, ◌==◌, nat_eq, length, slice_index, List}
 use Rattle.std.specs.declared.cmp.Ordering.{Ordering}
 use Rattle.std.specs.FinMap as map
 use Rattle.std.specs.List.{list_any, starts_with}
@@ -24,7 +24,3 @@ is_blocked w path = list_any (λ file. is_below path file || is_below file path)
 -- no file is also a folder
 abbrev pub IsWorld : World → Type 0
 IsWorld w = (folder file : List ℕ) → map.contains_key w folder ≡ true → map.contains_key w file ≡ true → is_below folder file ≡ false
-
--- A count rose. A count that stands at the last value of an adapter's counter counts as risen.
-abbrev pub Rose : ℕ → ℕ → Type 0
-Rose before now = min before (2 ^ 64 - 2) < now

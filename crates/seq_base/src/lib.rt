@@ -3,12 +3,15 @@
 
 mod bytes;
 mod id;
+pub mod laws;
 mod map;
 mod mode;
 mod path;
+mod store_path;
 
 pub use bytes::Bytes;
 pub use id::{Id, IdFault};
 pub use map::{Entry, InsertFault, PathMap};
 pub use mode::Mode;
 pub use path::{Path, PathFault};
+pub use store_path::{is_store_path, is_text};

@@ -83,7 +83,7 @@ impl PathMap {
     }
 
     pub fn len(&self) -> usize
-        ensures length { result ≡ length self.now }
+        ensures value { result ≡ length self.now }
         ensures map { IsPathMap self.now }
     {
         self.entries.len()
@@ -170,4 +170,67 @@ fn put_entry(entries: &mut Vec<(Path, Entry)>, path: Path, entry: Entry) -> Resu
     }
     entries.insert(i, (path, entry))?;
     Ok(())
+}
+
+#[cfg(test)]
+mod tests {
+    use super::*;
+    use std::test::Fail;
+
+    fn entry(mode: Mode, first: u8) -> Entry
+        ensures { result.mode ≡ mode }
+    {
+        let mut bytes = [0; 20];
+        bytes[0] = first;
+        Entry {
+            mode,
+            id: Id::from_bytes(bytes),
+        }
+    }
+
+    // The order is that of `git ls-files`: `a-b` before `a/b`, since `-` is below `/`.
+    #[test]
+    fn entries_stand_in_byte_order(rt: HostRuntime) -> Result<(), Fail> {
+        let alloc = rt.alloc();
+        let mut map = PathMap::new(alloc);
+        map.insert(Path::new(alloc, b"a/b")?, entry(Mode::File, 1))?;
+        map.insert(Path::new(alloc, b"a0")?, entry(Mode::Link, 2))?;
+        map.insert(Path::new(alloc, b"a-b")?, entry(Mode::Exec, 3))?;
+        map.insert(Path::new(alloc, b"a/b")?, entry(Mode::File, 4))?;
+        assert_eq!(rt; map.len(), 3);
+        let names: [&[u8]; 3] = [b"a-b", b"a/b", b"a0"];
+        for (n, name) in names.iter().enumerate() {
+            match map.at(n) {
+                Some((path, _)) => assert!(rt; path.bytes() == *name),
+                None => assert!(rt; false),
+            }
+        }
+        assert!(rt; map.at(3).is_none());
+        assert!(rt; map.get(&Path::new(alloc, b"a/b")?) == Some(entry(Mode::File, 4)));
+        assert!(rt; map.get(&Path::new(alloc, b"a")?) == None);
+        Ok(())
+    }
+
+    fn clashes_with(map: &mut PathMap, path: Path, other: &[u8]) -> bool {
+        match map.insert(path, entry(Mode::File, 9)) {
+            Err(InsertFault::Clash { other: found }) => found.bytes() == other,
+            _ => false,
+        }
+    }
+
+    // A path is a file or a folder: the first of `d/a` and `d/b` stands in the way of a file `d`, and a file `e` in that of `e/a`.
+    #[test]
+    fn no_file_is_also_a_folder(rt: HostRuntime) -> Result<(), Fail> {
+        let alloc = rt.alloc();
+        let mut map = PathMap::new(alloc);
+        for bytes in [b"d/b".as_slice(), b"d/a", b"e"] {
+            map.insert(Path::new(alloc, bytes)?, entry(Mode::File, 1))?;
+        }
+        assert!(rt; clashes_with(&mut map, Path::new(alloc, b"d")?, b"d/a"));
+        assert!(rt; clashes_with(&mut map, Path::new(alloc, b"e/a")?, b"e"));
+        assert!(rt; clashes_with(&mut map, Path::new(alloc, b"e/a/b/c")?, b"e"));
+        assert_eq!(rt; map.len(), 3);
+        map.insert(Path::new(alloc, b"d.c")?, entry(Mode::File, 1))?;
+        Ok(())
+    }
 }

@@ -10,6 +10,7 @@ ghost use Rattle.std.specs.List.{list_all};
 ghost use Rattle.std.specs.Ordering.{nat_cmp, as_partial_cmp};
 ghost use Rattle.std.specs.Str.{bytes_eq};
 ghost use Rattle.seq_base.specs.Paths.{is_special, is_part, parts, first_bad, IsPath, IsPathFault, IsPathFaultOrMemory};
+ghost use Rattle.seq_base.specs.StorePaths.{IsStorePath};
 
 use std::alloc::Global;
 use std::cmp::Ordering;
@@ -132,9 +133,11 @@ impl Path {
         }
     }
 
+    #[tactic(auto, using(crate::proofs::StorePathLemmas::path_is_store_path))]
     pub fn bytes(&self) -> &[u8]
         ensures same { result.now ≡ self.now }
         ensures path { IsPath self.now }
+        ensures store_path { IsStorePath self.now }
     {
         self.held.as_slice()
     }
@@ -175,5 +178,62 @@ impl PartialOrd for Path {
 
     fn partial_cmp(&self, other: &Path) -> Option<Ordering> {
         Some(self.cmp(other))
+    }
+}
+
+#[cfg(test)]
+mod tests {
+    use super::*;
+    use std::test::Fail;
+
+    // What `git fsck` and `git update-index --add --cacheinfo` refuse, and the place that is told.
+    #[test]
+    fn bad_paths_are_told(rt: HostRuntime) {
+        let rows: [(&[u8], PathFault); 14] = [
+            (b"", PathFault::Empty),
+            (b"a\xc3\x28", PathFault::NotUtf8 { at: 1 }),
+            (b"/a", PathFault::BadPart { at: 0 }),
+            (b"a//b", PathFault::BadPart { at: 2 }),
+            (b"a/", PathFault::BadPart { at: 2 }),
+            (b".", PathFault::BadPart { at: 0 }),
+            (b"a/./b", PathFault::BadPart { at: 2 }),
+            (b"..", PathFault::BadPart { at: 0 }),
+            (b"ab/../c", PathFault::BadPart { at: 3 }),
+            (b".git", PathFault::BadPart { at: 0 }),
+            (b".GIT/config", PathFault::BadPart { at: 0 }),
+            (b"sub/.Git/hooks", PathFault::BadPart { at: 4 }),
+            (b"a/b\0c/..", PathFault::BadPart { at: 2 }),
+            (b"..\xff", PathFault::NotUtf8 { at: 2 }),
+        ];
+        for (bytes, fault) in rows {
+            assert!(rt; Path::check(bytes) == Err(fault));
+        }
+        for bytes in [
+            b"a".as_slice(),
+            b".gitignore",
+            b"a/.github/b",
+            b"...",
+            b"a b/\xc3\xa9",
+        ] {
+            assert!(rt; Path::check(bytes) == Ok(()));
+        }
+    }
+
+    #[test]
+    fn a_path_has_4095_bytes_at_most(rt: HostRuntime) {
+        assert!(rt; Path::check([b'a'; 4095].as_slice()) == Ok(()));
+        assert!(rt;
+            Path::check([b'a'; 4096].as_slice()) == Err(PathFault::TooLong { length: 4096 })
+        );
+    }
+
+    #[test]
+    fn a_path_is_made_and_copied(rt: HostRuntime) -> Result<(), Fail> {
+        let path = Path::new(rt.alloc(), b"a/b")?;
+        assert!(rt; path.bytes() == b"a/b".as_slice());
+        let copy = path.clone()?;
+        assert!(rt; copy == path);
+        assert!(rt; path < Path::new(rt.alloc(), b"a/c")?);
+        Ok(())
     }
 }

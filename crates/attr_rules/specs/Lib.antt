@@ -1,0 +1,9 @@
+pub mod Letters
+pub mod Pieces
+pub mod Matches
+pub mod Reach
+pub mod Coded
+pub mod Rules
+pub mod Attributes
+pub mod Known
+pub mod MergeAttrs

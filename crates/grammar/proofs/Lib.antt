@@ -1,0 +1,12 @@
+pub mod Laws
+pub mod Words
+pub mod FieldLaws
+pub mod Passing
+pub mod Stars
+pub mod Top
+pub mod Keywords
+pub mod Scans
+pub mod StarLoops
+pub mod Maps
+pub mod LineLaws
+pub mod DecimalLaws

@@ -1,0 +1,7 @@
+use Rattle.std.proofs.Common.{◌≡◌, take}
+use Rattle.std.specs.Str.Parse.{digits_value}
+use Rattle.grammar.specs.Decimals.{capped}
+use Rattle.grammar.proofs.decimals.capped_value.Given as goal
+
+abbrev pub invariant-loop-b : goal.invariant-loop-b
+invariant-loop-b l = l.value ≡ capped (digits_value 10 (take l.b-index l.digits))

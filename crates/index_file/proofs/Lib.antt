@@ -1,0 +1,11 @@
+pub mod PathTests
+pub mod FrontLaws
+pub mod Sorted
+pub mod Trailers
+pub mod EntryLoop
+pub mod Written
+pub mod Rows
+pub mod Sequences
+pub mod Whole
+pub mod FaultLaws
+pub mod FaultsRead

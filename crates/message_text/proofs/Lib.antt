@@ -1,0 +1,15 @@
+pub mod BodyLemmas
+pub mod ChainLemmas
+pub mod CleanLaws
+pub mod CleanLemmas
+pub mod FixupLaws
+pub mod KeptLemmas
+pub mod LawSteps
+pub mod LineLemmas
+pub mod MarkLemmas
+pub mod ParagraphLemmas
+pub mod PickLemmas
+pub mod ShapeLaws
+pub mod StandLaws
+pub mod SubjectLemmas
+pub mod TrailerLemmas

@@ -1,0 +1,13 @@
+pub mod Fields
+pub mod LimitWhats
+pub mod TodoKinds
+pub mod UsageFaults
+pub mod Reasons
+pub mod StopKinds
+pub mod Refusals
+pub mod Report
+pub mod Status
+pub mod Refusing
+pub mod Words
+pub mod Pick
+pub mod Answers

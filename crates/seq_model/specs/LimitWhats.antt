@@ -1,0 +1,15 @@
+-- The names of what has a limit.
+use Rattle.std.specs.Prelude.{ℕ, List, codes}
+use Rattle.seq_model.specs.declared.limit.LimitWhat.{LimitWhat}
+use Rattle.seq_model.specs.declared.limit.LimitWhat.TheVariants.{ObjectBytes, TreeDepth, IndexEntries, TodoLines, TodoBytes, Labels, Parents, Commits, Jobs}
+
+abbrev pub limit_what_name : LimitWhat → List ℕ
+limit_what_name ObjectBytes = codes "object-bytes"
+limit_what_name TreeDepth = codes "tree-depth"
+limit_what_name IndexEntries = codes "index-entries"
+limit_what_name TodoLines = codes "todo-lines"
+limit_what_name TodoBytes = codes "todo-bytes"
+limit_what_name Labels = codes "labels"
+limit_what_name Parents = codes "parents"
+limit_what_name Commits = codes "commits"
+limit_what_name Jobs = codes "jobs"

@@ -1,0 +1,19 @@
+//! The meaning of what the program does, as definitions, and the plain types that they speak of: the outcomes of an
+//! invocation, what each prints, and its exit status.
+#![tactic(auto)]
+
+mod limit;
+mod outcome;
+mod reason;
+mod refusal;
+mod stop;
+mod todo_kind;
+mod usage;
+
+pub use limit::LimitWhat;
+pub use outcome::{Outcome, Paths};
+pub use reason::Reason;
+pub use refusal::Refusal;
+pub use stop::StopKind;
+pub use todo_kind::TodoKind;
+pub use usage::UsageFault;

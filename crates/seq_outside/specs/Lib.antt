@@ -1,0 +1,5 @@
+pub mod Causes
+pub mod Store
+pub mod Child
+pub mod Sink
+pub mod Env

@@ -1,0 +1,90 @@
+//! Children: programs that are run.
+
+ghost use Rattle.std.specs.Prelude.{◌≡◌, ◌≤◌, IsErrOf, ℕ};
+ghost use Rattle.seq_outside.specs.Child.{HasChildCause, Noted, noted};
+
+use crate::Store;
+use seq_base::Bytes;
+use std::alloc::Global;
+use std::marker::Model;
+use thiserror::Error;
+
+/// How a child ended.
+#[derive(Clone, Copy, Debug, PartialEq, Eq)]
+pub enum Exit {
+    Code(u8),
+    /// It was ended by a signal.
+    Killed,
+}
+
+/// Why a child gave no exit.
+#[derive(Clone, Copy, Debug, PartialEq, Eq, Drop, Error)]
+pub enum ChildError {
+    #[error("a child could not be run")]
+    Failed,
+    #[error("out of memory")]
+    Memory,
+}
+
+/// The words of a command line, the program's name first. Contracts see their list.
+#[derive(Debug, Drop)]
+pub struct Words {
+    held: Vec<Bytes>,
+}
+
+impl Model for Words {
+    ghost use Rattle.std.specs.Prelude.{List, ℕ};
+
+    ghost Value = { List (List ℕ) };
+
+    ghost view = { λ words. words.held.items };
+}
+
+impl Words {
+    pub fn from_vec(words: Vec<Bytes>) -> Words
+        ensures { result ≡ words.items }
+    {
+        Words { held: words }
+    }
+
+    pub fn as_slice(&self) -> &[Bytes]
+        ensures { result.now ≡ self.now }
+    {
+        &self.held
+    }
+
+    pub fn into_vec(self) -> Vec<Bytes>
+        ensures { result.items ≡ self }
+    {
+        self.held
+    }
+}
+
+/// What a child is to run, and what it reads on its standard input.
+#[derive(Debug, Drop)]
+pub struct Job {
+    pub words: Words,
+    pub input: Bytes,
+}
+
+/// Runs children over a store. What it tells is a relation per call: a concrete one gives it the meaning of its answers
+/// still to come and of its log.
+pub trait Spawner<S: Store> {
+    /// From the one spawner to the other this was noted: a job was handed in over a content, ended so, and left that.
+    ghost ran: { Self → Noted → Self → Type 0 };
+
+    /// In none of its calls so far did a count of its store's faults rise.
+    ghost calm: { Self → Type 0 };
+
+    /// How often it has failed.
+    ghost faults: { Self → ℕ };
+
+    /// Starts a child at the root, waits for it and answers its exit. What the store then holds, also where the call failed,
+    /// is what the child left.
+    fn run(&mut self, alloc: Global, store: &mut S, job: &Job) -> Result<Exit, ChildError>
+        ensures ran { (IsErrOf result ChildError.Memory → ⊥) → ran self.old (noted job.now (S.content store.old) result (S.content store.new)) self.new }
+        ensures cause { HasChildCause result (faults self.old) (faults self.new) }
+        ensures calm { calm self.new → calm self.old × (S.faults store.new ≡ S.faults store.old) }
+        ensures store_faults { S.faults store.old ≤ S.faults store.new }
+        ensures store_blocked { S.blocked store.old ≤ S.blocked store.new };
+}

@@ -1,0 +1,15 @@
+//! What the program meets outside, as traits with a written meaning: a store of files, children, a clock, and a sink for
+//! what it prints.
+#![tactic(auto)]
+
+mod child;
+mod clock;
+mod env;
+mod sink;
+mod store;
+
+pub use child::{ChildError, Exit, Job, Spawner, Words};
+pub use clock::Clock;
+pub use env::{Env, Variables, is_zone};
+pub use sink::{Sink, SinkError};
+pub use store::{Store, StoreError};

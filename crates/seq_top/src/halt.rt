@@ -1,0 +1,40 @@
+//! Why a step of an invocation gives no value.
+
+use seq_model::Refusal;
+use seq_outside::StoreError;
+use std::alloc::AllocError;
+
+/// Why a step of an invocation gives no value. A fault is no value of the step: it becomes the outcome at the end.
+#[derive(Drop)]
+pub enum Halt {
+    Refused(Refusal),
+    /// The store failed.
+    Fault,
+    Memory,
+}
+
+impl From<StoreError> for Halt {
+    ghost use Rattle.std.specs.Prelude.{◌≡◌};
+    ghost use Rattle.seq_top.specs.Halts.{halt_of};
+
+    ghost from_gives = { λ error halt. halt ≡ halt_of error };
+
+    fn from(error: StoreError) -> Halt {
+        match error {
+            StoreError::Failed => Halt::Fault,
+            StoreError::Blocked => Halt::Fault,
+            StoreError::Memory => Halt::Memory,
+        }
+    }
+}
+
+impl From<AllocError> for Halt {
+    ghost use Rattle.std.specs.Prelude.{◌≡◌};
+    ghost use Rattle.seq_top.specs.declared.halt.Halt.TheVariants.{Memory};
+
+    ghost from_gives = { λ _ halt. halt ≡ Memory };
+
+    fn from(_: AllocError) -> Halt {
+        Halt::Memory
+    }
+}
