@@ -1,9 +1,8 @@
 -- Where a commit stands in a graph.
-use Rattle.std.proofs.Common.{◌≡◌, ◌≢◌, ℕ, zero, suc, ◌+◌, ◌<◌, ◌≤◌, Bool, true, false, cond, not, ◌||◌, eqb, List, [], ◌∷◌, ◌++◌, length, take, get_or, Option, Some, None, is_some, refl, sym, ap, subst, ◌∙◌, arith}
-use Rattle.std.specs.List.{find, list_any}
+use Rattle.std.proofs.Common.{◌≡◌, ℕ, suc, ◌+◌, ◌<◌, Bool, true, false, cond, ◌||◌, List, [], ◌∷◌, length, get_or, Some, None, is_some, refl, arith}
 use Rattle.std.specs.Str.{bytes_eq}
 use Rattle.merge_base.specs.declared.graph.Node.{Node}
-use Rattle.merge_base.specs.Graphs.{first_missing, has, node_at, place_from}
+use Rattle.merge_base.specs.Graphs.{has, node_at, place_from}
 
 pub place_has : (n : ℕ) (graph : List Node) (id : List ℕ) → is_some (place_from n graph id) ≡ has graph id
 place_has n [] id = refl

@@ -1,5 +1,5 @@
 -- When a commit is added to a graph.
-use Rattle.std.specs.Prelude.{◌≡◌, ℕ, ◌<◌, ◌≤◌, Bool, true, false, List, length, Result, Ok, Err, Some, None}
+use Rattle.std.specs.Prelude.{◌≡◌, ◌<◌, ◌≤◌, true, false, List, length, Result, Ok, Err, Some, None}
 use Rattle.merge_base.specs.declared.graph.Node.{Node}
 use Rattle.merge_base.specs.declared.graph.GraphFault.{GraphFault}
 use Rattle.merge_base.specs.declared.graph.GraphFault.TheVariants.{Double, NoParent, Full, Memory}

@@ -3,3 +3,4 @@ pub mod Shape
 pub mod Adding
 pub mod Bases
 pub mod Ranges
+pub mod Marks

@@ -53,10 +53,11 @@ impl Model for Graph {
 }
 
 impl Graph {
-    ghost use Rattle.std.specs.Prelude.{◌≡◌, ◌∷◌, ◌++◌, [], OnOk, OnErr};
+    ghost use Rattle.std.specs.Prelude.{◌≡◌, ◌<◌, ◌∷◌, ◌++◌, [], IfSome, OnOk, OnErr, length};
     ghost use Rattle.std.specs.Option.{option_copied};
     ghost use Rattle.merge_base.specs.Graphs.{ParentsFirst, first_missing, has, node_at, place_from};
     ghost use Rattle.merge_base.specs.Adding.{AddEnds};
+    ghost use Rattle.merge_base.specs.Marks.{id_at, parents_at};
 
     pub fn new(alloc: Global) -> Graph
         ensures { result ≡ [] }
@@ -113,10 +114,26 @@ impl Graph {
         &self.nodes
     }
 
+    /// The place of the commit with this id.
     pub(crate) fn place_of(&self, id: &Id) -> Option<usize>
-        ensures { result ≡ place_from 0 self.now id.now }
+        ensures place { result ≡ place_from 0 self.now id.now }
+        ensures within { IfSome result (λ place. place < length self.now) }
     {
         self.places.get(id).copied()
+    }
+
+    pub(crate) fn id_at(&self, place: usize) -> Id
+        requires { place < length self.now }
+        ensures { result ≡ id_at self.now place }
+    {
+        self.nodes[place].id
+    }
+
+    pub(crate) fn parents_at(&self, place: usize) -> &[Id]
+        requires { place < length self.now }
+        ensures { result.now ≡ parents_at self.now place }
+    {
+        self.nodes[place].parents.as_slice()
     }
 
     #[tactic(auto, using(crate::proofs::Places::place_has))]

@@ -3,6 +3,8 @@
 
 mod graph;
 mod ids;
+mod search;
 
 pub use graph::{Graph, GraphFault, Node};
 pub use ids::Ids;
+pub use search::{bases, is_ancestor};

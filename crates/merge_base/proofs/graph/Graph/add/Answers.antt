@@ -1,4 +1,4 @@
-use Rattle.std.proofs.Common.{rules, ◌≡◌, ◌∷◌, ◌++◌, ◌<◌, ℕ, List, [], Bool, true, false, cond, length, None, Result, Ok, Err, sym, ap, ◌∙◌, arith}
+use Rattle.std.proofs.Common.{rules, ◌≡◌, ◌∷◌, ◌++◌, ◌<◌, List, [], Bool, true, false, cond, length, None, Result, Ok, Err, sym, ap, ◌∙◌}
 use Rattle.std.specs.Prelude.{OnOk, is_ok}
 use Rattle.merge_base.specs.declared.graph.Node.{Node}
 use Rattle.merge_base.specs.Graphs.{first_missing, has, limit}
