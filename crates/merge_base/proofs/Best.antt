@@ -52,6 +52,7 @@ parents_only graph ones others (suc n) k e = at (λ e. more (parents_only graph 
   where
     more : HasChild graph ones others n k → HasChild graph ones others (suc n) k
     more h = record { child = h.child; before = omega (arith, h.before); common = h.common; by = h.by }
+
     at : (is_marked (parents_of_both graph ones others n) k ≡ true → HasChild graph ones others (suc n) k) → (t : Bool) → are_both_marked ones others n ≡ t → is_marked (cond t (mark_each graph (parents_at graph n) (parents_of_both graph ones others n)) (parents_of_both graph ones others n)) k ≡ true → HasChild graph ones others (suc n) k
     at rest false both e = rest e
     at rest true both e = last (mark_each_only graph (parents_at graph n) (parents_of_both graph ones others n) k e)
@@ -94,6 +95,7 @@ left_only graph ones others without (suc n) id c = at (λ c. more (left_only gra
   where
     more : IsLeft graph ones others without n id → IsLeft graph ones others without (suc n) id
     more h = record { at = h.at; before = omega (arith, h.before); common = h.common; apart = h.apart; is = h.is }
+
     at : (Contains (left_of_both graph ones others without n) id → IsLeft graph ones others without (suc n) id) → (t : Bool) → (are_both_marked ones others n && not (is_marked without n)) ≡ t → Contains (cond t (left_of_both graph ones others without n ++ id_at graph n ∷ []) (left_of_both graph ones others without n)) id → IsLeft graph ones others without (suc n) id
     at rest false t c = rest c
     at rest true t c = last (Contains-push_cases (left_of_both graph ones others without n) (id_at graph n) id c)
@@ -141,8 +143,10 @@ left_is_base graph a b of_a of_b s id left = record {
   where
     in_a : Ancestors graph a id
     in_a = subst (Ancestors graph a) left.is ((s.marks_a.each left.at left.before).0 (and_first (is_marked of_a left.at) (is_marked of_b left.at) left.common))
+
     in_b : Ancestors graph b id
     in_b = subst (Ancestors graph b) left.is ((s.marks_b.each left.at left.before).0 (and_second (is_marked of_a left.at) (is_marked of_b left.at) left.common))
+
     best : (other base : List ℕ) → Ancestors graph a other → Ancestors graph b other → Ancestors graph other base → base ≡ id → base ≡ other
     best other _ other_a other_b itself e = refl
     best other _ other_a other_b (parent_of node base inside above parent) e =

@@ -119,6 +119,7 @@ mark_each_only graph (id ∷ ids) marks k e = at (mark_each_only graph ids (mark
     last : (is_marked marks k ≡ true) ⊎ (place_from 0 graph id ≡ Some k) → (is_marked marks k ≡ true) ⊎ MarkedBy graph (id ∷ ids) k
     last (inl was) = inl was
     last (inr is) = inr (record { id = id; among = (0, omega arith, refl); placed_is = is })
+
     at : (is_marked (mark marks (place_from 0 graph id)) k ≡ true) ⊎ MarkedBy graph ids k → (is_marked marks k ≡ true) ⊎ MarkedBy graph (id ∷ ids) k
     at (inl was) = last (mark_only marks (place_from 0 graph id) k was)
     at (inr by) = let l : by.among.0 < length ids = by.among.1 in inr (record { id = by.id; among = (suc by.among.0, omega arith, by.among.2); placed_is = by.placed_is })

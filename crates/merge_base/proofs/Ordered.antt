@@ -48,9 +48,10 @@ left_distinct graph ones others without first (suc n) l = at (left_distinct grap
         let was = left_only graph ones others without n x c in
         differ (id_at graph n) x
         (λ q.
-            let twice : Some n ≡ Some was.at = sym (place_at graph n first (omega arith)) ∙ ap (place_from 0 graph) (q ∙ sym was.is) ∙ place_at graph was.at first (omega (arith, was.before)) in
-            let e : n ≡ was.at = cc in
-            omega (arith, e, was.before))
+        let twice : Some n ≡ Some was.at = sym (place_at graph n first (omega arith)) ∙ ap (place_from 0 graph) (q ∙ sym was.is) ∙ place_at graph was.at first (omega (arith, was.before)) in
+        let e : n ≡ was.at = cc in
+        omega (arith, e, was.before))
+
     at : IsDistinct bytes_eq (left_of_both graph ones others without n) → (t : Bool) → IsDistinct bytes_eq (cond t (left_of_both graph ones others without n ++ id_at graph n ∷ []) (left_of_both graph ones others without n))
     at rest true = IsDistinct-push nat_list_eq_equiv (left_of_both graph ones others without n) (id_at graph n) rest (none_passes (bytes_eq (id_at graph n)) (left_of_both graph ones others without n) new)
     at rest false = rest
@@ -74,7 +75,8 @@ pub bases_are : (graph : List Node) (a b : List ℕ) (of_a of_b : List Bool) →
 bases_are graph a b of_a of_b s xs ys is moved sorted = record {
   order = rising ys sorted (IsDistinct-IsPermutation bytes_eq flips xs ys moved (subst (IsDistinct bytes_eq) (sym is) (left_distinct graph of_a of_b _ s.first (length graph) (omega arith))));
   each = λ id.
-    let base = left_are_bases graph a b of_a of_b s id in
-    (λ c. base.0 (subst (λ (l : List (List ℕ)). Contains l id) is (Contains-permutation ys xs id (IsPermutation-sym xs ys moved) c)),
-      λ h. Contains-permutation xs ys id moved (subst (λ (l : List (List ℕ)). Contains l id) (sym is) (base.1 h)));
+      let base = left_are_bases graph a b of_a of_b s id in (
+        λ c. base.0 (subst (λ (l : List (List ℕ)). Contains l id) is (Contains-permutation ys xs id (IsPermutation-sym xs ys moved) c)),
+        λ h. Contains-permutation xs ys id moved (subst (λ (l : List (List ℕ)). Contains l id) (sym is) (base.1 h)),
+      );
 }

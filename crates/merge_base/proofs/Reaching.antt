@@ -133,7 +133,8 @@ from_start graph commit start first is =
             let r = reached graph after commit first o.closed (record { at = start; is = is; marked = o.keeps start in' here }) (id_at graph place) a in
             let same : Some r.at ≡ Some place = sym r.is ∙ place_at graph place first l in
             let at_is : r.at ≡ place = cc in
-            subst (λ (i : ℕ). is_marked after i ≡ true) at_is r.marked);
+            subst (λ (i : ℕ). is_marked after i ≡ true) at_is r.marked,
+      );
     }
 
 pub ancestors_marked : (graph : List Node) (commit : List ℕ) → ParentsFirst graph → has graph commit ≡ true → MarkAncestors graph commit (mark_older graph (length graph) (mark (replicate (length graph) false) (place_from 0 graph commit)))

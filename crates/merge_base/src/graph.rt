@@ -53,7 +53,7 @@ impl Model for Graph {
 }
 
 impl Graph {
-    ghost use Rattle.std.specs.Prelude.{◌≡◌, ◌<◌, ◌∷◌, ◌++◌, [], IfSome, OnOk, OnErr, length};
+    ghost use Rattle.std.specs.Prelude.{◌≡◌, ◌<◌, ◌∷◌, ◌++◌, [], IfSome, OnOk, OnErr, is_some, length};
     ghost use Rattle.std.specs.Option.{option_copied};
     ghost use Rattle.merge_base.specs.Graphs.{ParentsFirst, first_missing, has, node_at, place_from};
     ghost use Rattle.merge_base.specs.Adding.{AddEnds};
@@ -98,6 +98,8 @@ impl Graph {
     /// The commit with this id, and None exactly where there is none.
     pub fn node(&self, id: Id) -> Option<&Node>
         ensures found { option_copied result ≡ node_at self.now id }
+        // Redundant, and what a search asks for.
+        ensures has { is_some result ≡ has self.now id }
         ensures graph { ParentsFirst self.now }
     {
         let nodes = self.nodes();

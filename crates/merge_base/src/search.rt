@@ -1,6 +1,9 @@
 //! Searches from commits to their ancestors.
 
 ghost use Rattle.std.specs.Prelude.{◌≡◌, ◌<◌, ◌↔◌, IfOk, IsTrue, false, length, replicate};
+ghost use Rattle.std.specs.Cmp.Lexicographic.{slice_cmp};
+ghost use Rattle.std.specs.List.Sorted.{IsPermutation, IsSorted};
+ghost use Rattle.std.specs.Ordering.{nat_cmp};
 ghost use Rattle.merge_base.specs.Graphs.{ParentsFirst, has, place_from};
 ghost use Rattle.merge_base.specs.Bases.{Ancestors, AreBases};
 ghost use Rattle.merge_base.specs.Marks.{MarkAncestors, left_of_both, mark, mark_each, mark_older, parents_at, parents_of_both};
@@ -10,7 +13,6 @@ use seq_base::Id;
 use std::alloc::{AllocError, Global};
 
 /// Whether a commit is another or one of its ancestors (git-merge-base(1), "--is-ancestor").
-#[tactic(auto, using(crate::proofs::Places::place_has))]
 pub fn is_ancestor(alloc: Global, graph: &Graph, a: Id, b: Id) -> Result<bool, AllocError>
     requires a { IsTrue (has graph.now a) }
     requires b { IsTrue (has graph.now b) }
@@ -32,7 +34,13 @@ pub fn bases(alloc: Global, graph: &Graph, a: Id, b: Id) -> Result<Vec<Id>, Allo
     let of_a = ancestors(alloc, graph, &a)?;
     let of_b = ancestors(alloc, graph, &b)?;
     let above = parents_of_common(alloc, graph, &of_a, &of_b)?;
-    let mut ids = best(alloc, graph, &of_a, &of_b, &above)?;
+    in_order(best(alloc, graph, &of_a, &of_b, &above)?)
+}
+
+fn in_order(mut ids: Vec<Id>) -> Result<Vec<Id>, AllocError>
+    ensures moved { IfOk result (λ sorted. IsPermutation ids.items sorted.items) }
+    ensures order { IfOk result (λ sorted. IsSorted (slice_cmp nat_cmp) sorted.items) }
+{
     ids.sort()?;
     Ok(ids)
 }
@@ -74,7 +82,12 @@ fn mark_ancestors(graph: &Graph, marks: &mut [bool])
 }
 
 /// A mark for each commit that is a parent of a common ancestor.
-fn parents_of_common(alloc: Global, graph: &Graph, of_a: &[bool], of_b: &[bool]) -> Result<Vec<bool>, AllocError>
+fn parents_of_common(
+    alloc: Global,
+    graph: &Graph,
+    of_a: &[bool],
+    of_b: &[bool],
+) -> Result<Vec<bool>, AllocError>
     requires a { length of_a.now ≡ length graph.now }
     requires b { length of_b.now ≡ length graph.now }
     ensures marks { IfOk result (λ marks. marks.items ≡ parents_of_both graph.now of_a.now of_b.now (length graph.now)) }
@@ -92,7 +105,13 @@ fn parents_of_common(alloc: Global, graph: &Graph, of_a: &[bool], of_b: &[bool])
 }
 
 /// The ids of the common ancestors that are no parents of one.
-fn best(alloc: Global, graph: &Graph, of_a: &[bool], of_b: &[bool], above: &[bool]) -> Result<Vec<Id>, AllocError>
+fn best(
+    alloc: Global,
+    graph: &Graph,
+    of_a: &[bool],
+    of_b: &[bool],
+    above: &[bool],
+) -> Result<Vec<Id>, AllocError>
     requires a { length of_a.now ≡ length graph.now }
     requires b { length of_b.now ≡ length graph.now }
     requires above { length above.now ≡ length graph.now }

@@ -1,6 +1,6 @@
-use Rattle.std.proofs.Common.{rules, ◌≡◌, ℕ, ◌<◌, List, Some, length, get_or, sym, ap, ◌∙◌, arith}
+use Rattle.std.proofs.Common.{rules, ◌≡◌, ℕ, ◌<◌, List, Some, is_some, length, get_or, sym, ap, ◌∙◌, arith}
 use Rattle.merge_base.specs.declared.graph.Node.{Node}
-use Rattle.merge_base.proofs.Places.{placed, unplaced}
+use Rattle.merge_base.proofs.Places.{place_has, placed, unplaced}
 use Rattle.merge_base.proofs.graph.Graph.node.Goals as goal
 
 pub bounds-nodes-place : goal.bounds-nodes-place
@@ -24,3 +24,9 @@ offset_bounds-nodes-place c =
     let at = placed 0 c.args.self.now c.args.id c.in-Some.place (sym c.in-Some.ensures.place) in
     let within : c.in-Some.place < length c.nodes-nodes.result.now = omega (arith, at.is, at.within, ap length c.nodes-nodes.ensures.same) in
     search rules
+
+pub returns-in-Some-clause-has : goal.returns-in-Some-clause-has
+returns-in-Some-clause-has c = ap is_some c.in-Some.ensures.place ∙ place_has 0 c.args.self.now c.args.id
+
+pub returns-in-None-clause-has : goal.returns-in-None-clause-has
+returns-in-None-clause-has c = ap is_some c.in-None.ensures.place ∙ place_has 0 c.args.self.now c.args.id
