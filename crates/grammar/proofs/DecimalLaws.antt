@@ -1,20 +1,22 @@
 -- Decimal numbers are words.
-use Rattle.std.proofs.Common.{◌≡◌, ℕ, zero, suc, ◌+◌, ◌*◌, ◌-◌, ◌^◌, ◌<◌, ◌≤◌, Bool, true, false, cond, not, ◌&&◌, ◌||◌, eqb, leb, ltb, List, [], ◌∷◌, ◌++◌, length, take, get_or, Option, Some, None, Result, Ok, Err, refl, sym, ap, subst, ◌∙◌, append_assoc, arith}
+use Rattle.std.proofs.Common.{◌≡◌, ℕ, zero, suc, ◌+◌, ◌*◌, ◌-◌, ◌^◌, ◌<◌, ◌≤◌, Bool, true, false, cond, eqb, leb, List, [], ◌∷◌, ◌++◌, length, take, get_or, Some, None, refl, ap, ◌∙◌, arith}
 use Rattle.std.specs.Prelude.{min}
-use Rattle.std.specs.Char.{is_ascii_digit, digit_value}
+use Rattle.std.specs.Char.{is_ascii_digit}
 use Rattle.std.specs.List.{list_all}
-use Rattle.std.specs.Str.Parse.{digits_value}
-use Rattle.std.proofs.lemmas.List.{append-nil, length-append}
-use Rattle.std.proofs.lemmas.List.Folds.{list_all-append}
+use Rattle.std.specs.Fmt.{decimal}
+use Rattle.std.specs.Str.Parse.{AllDigits, digits_value}
+use Rattle.std.proofs.lemmas.Fmt.{decimal_digit, decimal_is_IsNumeral, first_decimal}
+use Rattle.std.proofs.lemmas.Str.Parse.{digit_from_value}
+use Rattle.std.proofs.lemmas.List.{append-nil}
 use Rattle.std.proofs.lemmas.List.Sums.{AllPass-from_list_all}
 use Rattle.std.proofs.lemmas.Int.Digits.{digits_value_more}
 use Rattle.std.proofs.lemmas.Str.{digit_value_digit}
-use Rattle.std.proofs.lemmas.Bool.{eqb-true, eqb-false, eq-eqb, ne_eqb, leb-true}
+use Rattle.std.proofs.lemmas.Bool.{ne_eqb, leb-true, le-leb}
 use Rattle.grammar.specs.Grammar.{AllBytes}
-use Rattle.grammar.specs.Readers.{◌>>=◌, Reads, HasText, Word, IsWord, span_at, ended, valued_at}
-use Rattle.grammar.specs.Decimals.{is_none, is_decimal_front, decimal_value, decimal_at, capped, capped_decimal_at}
+use Rattle.grammar.specs.Readers.{Reads, HasText, Word, IsWord}
+use Rattle.grammar.specs.Decimals.{is_none, is_decimal_front, decimal_value, decimal_at, capped}
 use Rattle.grammar.proofs.Passing.{and_true}
-use Rattle.grammar.proofs.Words.{valued_reads, word_has, valued_of}
+use Rattle.grammar.proofs.Words.{valued_reads, word_has}
 
 guard : {X : Type 0} (t : Bool) (x y : X) → cond t (Some x) None ≡ Some y → (t ≡ true) × (x ≡ y)
 guard true x y e = (refl, cc)
@@ -107,3 +109,29 @@ capped_more ds i lt all =
     let value = digit_value_digit (get_or ds i 0) digit in
     let more = digits_value_more 10 ds i lt in
     omega arith
+
+-- ---- what is written of a number
+
+digits_all : (ds : List ℕ) → AllDigits 10 ds → list_all is_ascii_digit ds ≡ true
+digits_all [] h = refl
+digits_all (c ∷ ds) h =
+    let range = digit_from_value c h.0 in
+    let low = le-leb 48 c range.0 in
+    let high = le-leb c 57 range.1 in
+    rw (low, high) (digits_all ds h.1)
+
+written : (ds : List ℕ) (n : ℕ) → 0 < length ds → list_all is_ascii_digit ds ≡ true → 48 < get_or ds 0 0 → digits_value 10 ds ≡ n → decimal_value ds ≡ Some n
+written [] n some all high value = absurd (omega arith)
+written (b ∷ bs) n some all high value =
+    let k = and_true (is_ascii_digit b) (list_all is_ascii_digit bs) all in
+    let first = k.0 in
+    let rest = k.1 in
+    let other : eqb b 48 ≡ false = ne_eqb b 48 (λ e. absurd (omega arith)) in
+    rw (first, other, rest) (ap Some value)
+
+-- the digits that `{}` writes of a number are its decimal number
+pub decimal_value-decimal : (n : ℕ) → n < 2 ^ 64 → decimal_value (decimal n) ≡ Some n
+decimal_value-decimal zero fits = ap decimal_value (decimal_digit 0 (omega arith))
+decimal_value-decimal (suc n) fits =
+    let k = decimal_is_IsNumeral (suc n) fits in
+    written (decimal (suc n)) (suc n) k.0.0 (digits_all (decimal (suc n)) k.0.1) (first_decimal (suc n) (omega arith) fits) k.1

@@ -1,7 +1,7 @@
 -- The same texts, with other values.
-use Rattle.std.proofs.Common.{◌≡◌, ℕ, ◌-◌, ◌++◌, inl, inr, List, length, take, Result, Ok, Err, refl, sym, ap, subst, ◌∙◌, arith}
+use Rattle.std.proofs.Common.{◌≡◌, ℕ, ◌-◌, ◌++◌, inl, inr, List, length, take, Result, Ok, refl, sym, ap, subst, ◌∙◌, arith}
 use Rattle.std.proofs.lemmas.List.{length-append, take_at}
-use Rattle.grammar.specs.Readers.{◌>>=◌, Reads, ReadsAll, Stops, HasText, TextOf, text_at}
+use Rattle.grammar.specs.Readers.{◌>>=◌, Reads, ReadsAll, HasText, TextOf, text_at}
 use Rattle.grammar.proofs.Laws.{ok_is, bind_ok, bind_err}
 use Rattle.grammar.proofs.FieldLaws.{stops_same}
 

@@ -6,12 +6,11 @@ use Rattle.std.specs.declared.cmp.Ordering.TheVariants.{Less, Equal, Greater}
 use Rattle.std.specs.Cmp.Lexicographic.{slice_cmp}
 use Rattle.std.proofs.lemmas.Bool.Decides.{Decides-eqb, Decides-ltb}
 use Rattle.std.proofs.lemmas.List.{get_or_default, get_or-set_same, get_or-set_other}
-use Rattle.std.proofs.lemmas.List.Folds.{list_any_more}
 use Rattle.std.proofs.Math.ListN.{set}
 use Rattle.seq_base.specs.PathMaps.{is_folder_of, is_less}
 use Rattle.tree_merge.specs.declared.plans.Planned.{Planned}
 use Rattle.tree_merge.specs.Plans.{AreInOrder, is_present, is_under}
-use Rattle.tree_merge.proofs.Order.{less_trans, not_both_less}
+use Rattle.tree_merge.proofs.Order.{not_both_less}
 use Rattle.tree_merge.proofs.Steps.{not_less_self}
 
 -- b begins with a

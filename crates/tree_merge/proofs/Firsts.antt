@@ -1,14 +1,12 @@
 -- The first path of entries, and the paths behind it.
-use Rattle.std.proofs.Common.{◌≡◌, ℕ, Bool, true, false, cond, not, ◌||◌, List, [], ◌∷◌, ◌++◌, Option, Some, None, refl, sym, ap, subst, ◌∙◌}
-use Rattle.std.specs.Prelude.{filter, map}
+use Rattle.std.proofs.Common.{◌≡◌, ℕ, Bool, true, false, cond, not, ◌||◌, List, [], ◌∷◌, ◌++◌, Some, None, refl, ap, ◌∙◌}
+use Rattle.std.specs.Prelude.{filter}
 use Rattle.std.specs.List.{AllByRecursion, list_any}
 use Rattle.std.specs.Str.{bytes_eq}
-use Rattle.seq_base.specs.declared.map.Entry.{Entry}
 use Rattle.seq_base.specs.PathMaps.{IsAscending, entry_at, is_less}
-use Rattle.tree_merge.specs.declared.plans.Planned.{Planned}
-use Rattle.tree_merge.specs.Plans.{Entries, is_listed, listed, paths_of, row_at, row_of, with_path}
-use Rattle.tree_merge.specs.Walks.{after, head_entry, head_path, lesser}
-use Rattle.tree_merge.proofs.Order.{less_trans, otherwise_less, not_both_less, less_apart, same_swap, same_is, same_self, less_or_same}
+use Rattle.tree_merge.specs.Plans.{Entries, paths_of, with_path}
+use Rattle.tree_merge.specs.Walks.{after, head_entry, head_path}
+use Rattle.tree_merge.proofs.Order.{otherwise_less, not_both_less, less_apart, same_swap, same_is, same_self, less_or_same}
 
 -- no entry comes before the path
 abbrev pub NoneBefore : List ℕ → Entries → Type 0

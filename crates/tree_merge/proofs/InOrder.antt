@@ -1,12 +1,12 @@
 -- The rows of a merge stand in the order of their paths.
-use Rattle.std.proofs.Common.{◌≡◌, ℕ, zero, suc, ◌<◌, Bool, true, false, cond, List, [], ◌∷◌, ◌++◌, length, get_or, refl, sym, ap, ◌∙◌, arith}
+use Rattle.std.proofs.Common.{◌≡◌, ℕ, zero, suc, ◌<◌, Bool, true, false, cond, List, [], ◌∷◌, ◌++◌, length, get_or, refl, arith}
 use Rattle.std.specs.Prelude.{filter, map}
 use Rattle.std.specs.List.{AllByRecursion}
 use Rattle.std.specs.Str.{bytes_eq}
 use Rattle.seq_base.specs.PathMaps.{is_less}
 use Rattle.tree_merge.specs.declared.plans.Planned.{Planned}
 use Rattle.tree_merge.specs.Plans.{AreInOrder, Entries, is_listed, listed, paths_of, row_at, with_path}
-use Rattle.tree_merge.proofs.Order.{less_trans, otherwise_less, same_is}
+use Rattle.tree_merge.proofs.Order.{less_trans, otherwise_less}
 
 abbrev pub Ascends : List (List ℕ) → Type 0
 Ascends [] = Unit {0}

@@ -2,15 +2,13 @@
 use Rattle.std.proofs.Common.{◌≡◌, ℕ, Bool, true, false, cond, eqb, ◌&&◌, List, Option, Some, None, refl, sym, ap, ◌∙◌}
 use Rattle.std.specs.Bool.{Decides}
 use Rattle.std.specs.Option.{option_map_or}
-use Rattle.std.specs.Str.{bytes_eq}
 use Rattle.std.proofs.lemmas.Bool.Decides.{same_from_decides, Decides-eqb}
 use Rattle.std.proofs.lemmas.Slice.Eq.{bytes_eq-Decides}
 use Rattle.seq_base.specs.declared.map.Entry.{Entry}
 use Rattle.seq_base.specs.declared.mode.Mode.{Mode}
 use Rattle.seq_base.specs.declared.mode.Mode.TheVariants.{File, Exec, Link, Gitlink, Folder}
 use Rattle.seq_base.specs.Modes.{mode_number}
-use Rattle.tree_merge.specs.declared.rules.Choice.{Choice}
-use Rattle.tree_merge.specs.declared.rules.Choice.TheVariants.{Take, Content, Conflict}
+use Rattle.tree_merge.specs.declared.rules.Choice.TheVariants.{Take, Conflict}
 use Rattle.tree_merge.specs.Choices.{agreed, is_file_mode, same_entry, same_id, same_mode}
 use Rattle.tree_merge.specs.Choosing.{choice, changed, by_parts, may_be_file, merged_files, merged_id, merged_mode}
 

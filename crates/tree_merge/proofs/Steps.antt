@@ -1,15 +1,15 @@
 -- One step of a walk over three maps side by side.
 use Rattle.std.proofs.Common.{◌≡◌, ℕ, ◌+◌, ◌<◌, Bool, true, false, cond, ◌||◌, ◌⊎◌, inl, inr, List, [], ◌∷◌, ◌++◌, length, Option, Some, None, refl, sym, ap, ◌∙◌, append_assoc, arith}
 use Rattle.std.specs.Prelude.{filter, map}
-use Rattle.std.specs.List.{AllByRecursion, list_any}
+use Rattle.std.specs.List.{AllByRecursion}
 use Rattle.std.specs.Str.{bytes_eq}
 use Rattle.seq_base.specs.declared.map.Entry.{Entry}
 use Rattle.seq_base.specs.PathMaps.{IsAscending, entry_at, is_less}
 use Rattle.tree_merge.specs.declared.plans.Planned.{Planned}
 use Rattle.tree_merge.specs.Plans.{Entries, is_listed, listed, paths_of, row_at, row_of}
 use Rattle.tree_merge.specs.Walks.{after, head_entry, head_path, lesser}
-use Rattle.tree_merge.proofs.Order.{not_both_less, less_apart, less_or_same, same_is, same_self, same_swap}
-use Rattle.tree_merge.proofs.Firsts.{Behind, Head, NoneBefore, all_paths, filter_append, first_of, has, head_of, without}
+use Rattle.tree_merge.proofs.Order.{not_both_less, less_apart, less_or_same, same_is, same_self}
+use Rattle.tree_merge.proofs.Firsts.{Behind, NoneBefore, all_paths, filter_append, first_of, has, head_of, without}
 
 pub not_less_self : (p : List ℕ) → is_less p p ≡ false
 not_less_self p = at (is_less p p) refl

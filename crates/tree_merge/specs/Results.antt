@@ -1,5 +1,5 @@
 -- What a merge without conflicts leaves (git-merge(1), "TRUE MERGE").
-use Rattle.std.specs.Prelude.{◌≡◌, ℕ, false, List, ◌++◌, Option, Some, None}
+use Rattle.std.specs.Prelude.{◌≡◌, ℕ, false, List, ◌++◌, Option, None}
 use Rattle.std.specs.Option.{option_map}
 use Rattle.std.specs.List.{AllByRecursion, filter_map}
 use Rattle.seq_base.specs.declared.map.Entry.{Entry}
@@ -8,7 +8,7 @@ use Rattle.tree_merge.specs.declared.rules.Choice.{Choice}
 use Rattle.tree_merge.specs.declared.rules.Choice.TheVariants.{Take, Content, Conflict}
 use Rattle.tree_merge.specs.declared.plans.Planned.{Planned}
 use Rattle.tree_merge.specs.Choosing.{choice}
-use Rattle.tree_merge.specs.Plans.{Entries, paths_of, plan_of}
+use Rattle.tree_merge.specs.Plans.{Entries, paths_of}
 
 -- the entry that a choice takes
 abbrev pub taken : Choice → Option Entry

@@ -1,5 +1,4 @@
-use Rattle.std.proofs.Common.{◌≡◌, ℕ, ◌+◌, ◌*◌, ◌-◌, ◌^◌, sym, ◌∙◌, ap, arith}
-use Rattle.std.specs.Prelude.{min}
+use Rattle.std.proofs.Common.{arith}
 use Rattle.grammar.proofs.DecimalLaws.{capped_more}
 use Rattle.grammar.proofs.decimals.capped_value.Goals as goal
 

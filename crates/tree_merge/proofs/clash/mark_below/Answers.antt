@@ -1,10 +1,9 @@
-use Rattle.std.proofs.Common.{◌≡◌, ℕ, ◌+◌, ◌<◌, ◌≤◌, Bool, true, false, not, ◌||◌, ◌&&◌, ltb, length, take, get_or, refl, sym, ap, ◌∙◌, arith}
+use Rattle.std.proofs.Common.{◌≡◌, ℕ, ◌+◌, ◌<◌, ◌≤◌, Bool, true, false, ◌||◌, length, take, get_or, sym, ap, ◌∙◌, arith}
 use Rattle.std.specs.List.{list_any}
 use Rattle.std.proofs.lemmas.List.{get_or_default}
 use Rattle.std.proofs.lemmas.List.Folds.{list_any_more}
 use Rattle.tree_merge.specs.declared.plans.Planned.{Planned}
 use Rattle.tree_merge.specs.Plans.{is_under, is_upper}
-use Rattle.tree_merge.proofs.Cursors.{when_not_true}
 use Rattle.tree_merge.proofs.Clashes.{or_true, or_false, any_none, any_until, begins, marks_none, marks_kept, marks_set, marks_done, none_under_before, none_under_behind}
 use Rattle.tree_merge.proofs.clash.mark_below.Goals as goal
 use Rattle.tree_merge.proofs.clash.mark_below.Goals.{then-is_row_under, else-is_row_under}

@@ -1,10 +1,9 @@
-use Rattle.std.proofs.Common.{◌≡◌, ◌+◌, ◌<◌, ◌++◌, ◌∷◌, length, Some, None, List, cond, true, false, sym, ap, subst, ◌∙◌}
+use Rattle.std.proofs.Common.{◌≡◌, ◌++◌, Some, None, List, sym, ap, subst, ◌∙◌}
 use Rattle.std.proofs.lemmas.List.{append-nil}
 use Rattle.tree_merge.specs.declared.plans.Planned.{Planned}
 use Rattle.tree_merge.proofs.InOrder.{listed_in_order}
-use Rattle.std.specs.Option.{option_copied}
-use Rattle.tree_merge.specs.Plans.{AreInOrder, is_listed, is_present, listed, row_of}
-use Rattle.tree_merge.specs.Walks.{after, head_entry, head_path, lesser}
+use Rattle.tree_merge.specs.Plans.{AreInOrder, listed, row_of}
+use Rattle.tree_merge.specs.Walks.{head_entry, head_path, lesser}
 use Rattle.tree_merge.proofs.Steps.{step, kept, skipped, listed_none}
 use Rattle.tree_merge.proofs.walk.listed_rows.Goals as goal
 

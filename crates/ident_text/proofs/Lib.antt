@@ -1,0 +1,3 @@
+pub mod Secs
+pub mod IdentLaws
+pub mod ScriptLaws

@@ -1,0 +1,5 @@
+pub mod Idents
+pub mod AuthorScripts
+pub mod Faults
+pub mod ReadIdents
+pub mod ReadScripts

@@ -1,0 +1,70 @@
+-- Reading who made a commit and when, from left to right.
+use Rattle.std.specs.Prelude.{ℕ, ℤ, pos, negsuc, ◌-◌, ◌^◌, Bool, true, false, not, ◌&&◌, ◌==◌, nat_le, if◌then◌else◌, List, [], ◌∷◌, ◌++◌, length, take, slice_index, Option, Some, None, Result, Ok}
+use Rattle.std.specs.Char.{is_ascii_digit}
+use Rattle.std.specs.List.{list_all}
+use Rattle.std.specs.Str.Parse.{digits_value}
+use Rattle.grammar.specs.Decimals.{is_decimal_front}
+use Rattle.grammar.specs.Readers.{◌>>=◌, valued_at, run_at, literal_at, passing_at, end_at}
+use Rattle.ident_text.specs.declared.ident.Ident.{Ident}
+use Rattle.ident_text.specs.Idents.{is_ident_byte, is_sign}
+
+abbrev pub ends_in_space : List ℕ → Bool
+ends_in_space w = not (length w == 0) && slice_index w (length w - 1) == 32
+
+-- the name before the SP that ends the word
+abbrev pub name_value : List ℕ → Option (List ℕ)
+name_value w = if list_all is_ident_byte w && ends_in_space w then Some (take (length w - 1) w) else None
+
+unfoldable pub name_from : List ℕ → Result (List ℕ × List ℕ) ℕ
+name_from bytes = valued_at (list_all is_ident_byte) name_value 60 bytes
+
+-- a 0 stands first
+abbrev pub is_zero_first : List ℕ → Bool
+is_zero_first [] = false
+is_zero_first (b ∷ bs) = b == 48
+
+-- some time may begin so: digits with no 0 before others, or `-` and digits with no 0 in front, within 64 bits with a sign
+abbrev pub is_secs_front : List ℕ → Bool
+is_secs_front [] = true
+is_secs_front (b ∷ bs) =
+    if b == 45 then is_decimal_front bs && not (is_zero_first bs) && nat_le (digits_value 10 bs) (2 ^ 63)
+    else is_decimal_front (b ∷ bs) && nat_le (digits_value 10 (b ∷ bs)) (2 ^ 63 - 1)
+
+-- the number that such a front writes: none where there is no digit
+abbrev pub number_of : List ℕ → Option ℤ
+number_of [] = None
+number_of (b ∷ bs) =
+    if b == 45 then (if length bs == 0 then None else Some (negsuc (digits_value 10 bs - 1)))
+    else Some (pos (digits_value 10 (b ∷ bs)))
+
+abbrev pub secs_value : List ℕ → Option ℤ
+secs_value w = if is_secs_front w then number_of w else None
+
+-- the seconds, up to the SP behind them
+unfoldable pub secs_from : List ℕ → Result (ℤ × List ℕ) ℕ
+secs_from bytes = valued_at is_secs_front secs_value 32 bytes
+
+unfoldable pub zone_from : List ℕ → Result (List ℕ × List ℕ) ℕ
+zone_from bytes = do
+  sign ← passing_at is_sign 1 bytes
+  digits ← passing_at is_ascii_digit 4 sign.1
+  Ok (sign.0 ++ digits.0, digits.1)
+
+abbrev pub made : List ℕ → List ℕ → ℤ → List ℕ → Ident
+made name email secs zone = record { name = name; email = email; secs = secs; zone = zone }
+
+-- an ident, and what stands behind it
+unfoldable pub ident_from : List ℕ → Result (Ident × List ℕ) ℕ
+ident_from bytes = do
+  name ← name_from bytes
+  email ← run_at is_ident_byte 62 name.1
+  space ← literal_at (32 ∷ []) email.1
+  secs ← secs_from space.1
+  zone ← zone_from secs.1
+  Ok (made name.0 email.0 secs.0 zone.0, zone.1)
+
+unfoldable pub whole_ident_from : List ℕ → Result Ident ℕ
+whole_ident_from bytes = do
+  ident ← ident_from bytes
+  end ← end_at ident.1
+  Ok ident.0

@@ -1,0 +1,16 @@
+//! Who made a commit and when, as text: the ident of a commit or a reflog, and the author's script.
+#![tactic(auto)]
+
+mod fault;
+mod ident;
+mod parts;
+mod quotes;
+mod script;
+
+pub use fault::IdentFault;
+pub use ident::{Ident, ident_text, parse_ident};
+pub use parts::{IdentParts, ident_of};
+pub use script::{author_script, parse_author_script};
+
+#[cfg(test)]
+mod tests;

@@ -1,0 +1,9 @@
+pub mod Modes
+pub mod Names
+pub mod Tied
+pub mod Entries
+pub mod IdentLaws
+pub mod CommitLaws
+pub mod CommitLoops
+pub mod CommitValues
+pub mod ObjectLaws

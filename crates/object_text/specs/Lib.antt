@@ -1,0 +1,11 @@
+pub mod Faults
+pub mod Objects
+pub mod Trees
+pub mod Idents
+pub mod Commits
+pub mod ReadTrees
+pub mod ReadIdents
+pub mod ReadCommits
+pub mod ReadObjects
+pub mod Store
+pub mod TreeMaps

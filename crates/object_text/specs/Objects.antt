@@ -1,0 +1,23 @@
+-- The text of an object, `<kind> SP <length> NUL <content>` (Pro Git 10.2, "Object Storage"; git-cat-file(1) names the kinds).
+use Rattle.std.specs.Prelude.{◌≡◌, ℕ, List, ◌∷◌, ◌++◌, length, codes, decimal, Some}
+use Rattle.grammar.specs.Decimals.{decimal_value}
+use Rattle.object_text.specs.declared.object.Kind.{Kind}
+use Rattle.object_text.specs.declared.object.Kind.TheVariants.{Blob, Tree, Commit, Tag}
+use Rattle.object_text.specs.declared.object.Object.{Object}
+
+-- the word of a kind
+abbrev pub kind_text : Kind → List ℕ
+kind_text Blob = codes "blob"
+kind_text Tree = codes "tree"
+kind_text Commit = codes "commit"
+kind_text Tag = codes "tag"
+
+-- the text of an object, whose length a computer can count
+abbrev pub object_text : Object → List ℕ
+object_text o = kind_text o.kind ++ 32 ∷ decimal (length o.bytes) ++ 0 ∷ o.bytes
+
+-- the text is the object's: the length is written in digits, with no 0 before others
+pub record IsObject (o : Object) (text : List ℕ) : Type 0 where
+  pub digits : List ℕ
+  pub length_is : decimal_value digits ≡ Some (length o.bytes)
+  pub text_is : text ≡ kind_text o.kind ++ 32 ∷ digits ++ 0 ∷ o.bytes
