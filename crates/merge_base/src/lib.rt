@@ -1,4 +1,4 @@
-//! Graphs of commits, and in `specs/` their ancestors, merge bases and ranges.
+//! Graphs of commits: ancestors and merge bases, and in `specs/` the range between tips.
 #![tactic(auto)]
 
 mod graph;
