@@ -4,3 +4,4 @@ pub mod Plans
 pub mod Walks
 pub mod Marks
 pub mod Results
+pub mod Merging

@@ -1,0 +1,12 @@
+//! Graphs of commits: ancestors and merge bases, and in `specs/` the range between tips.
+#![tactic(auto)]
+
+mod graph;
+mod ids;
+mod search;
+#[cfg(test)]
+mod tests;
+
+pub use graph::{Graph, GraphFault, Node};
+pub use ids::Ids;
+pub use search::{bases, is_ancestor};
