@@ -1,119 +1,98 @@
 use super::report;
-use seq_base::{Bytes, Id, Path};
-use seq_model::{LimitWhat, Outcome, Paths, Reason, Refusal, StopKind, TodoKind, UsageFault};
+use seq_base::{Bytes, Id, IdFault, Path};
+use seq_model::{LimitWhat, Outcome, Paths, Refusal, StopKind, UsageFault};
 use seq_outside::Exit;
 use std::alloc::{AllocError, Global};
+use std::process::Abort;
 use std::test::Fail;
 
 fn bytes(alloc: Global, text: &[u8]) -> Result<Bytes, AllocError> {
     Ok(Bytes::from_vec(text.to_vec(alloc)?))
 }
 
-fn stopped(alloc: Global, kind: StopKind) -> Outcome {
+fn prints(
+    rt: &impl Abort,
+    alloc: Global,
+    outcome: &Outcome,
+    text: &[u8],
+) -> Result<(), AllocError> {
+    let printed = report(alloc, outcome)?;
+    assert_eq!(rt; printed.as_slice(), text);
+    Ok(())
+}
+
+fn conflict(paths: Vec<Path>) -> Outcome {
     Outcome::Stopped {
-        kind,
-        paths: Paths::from_vec(Vec::new(alloc)),
+        kind: StopKind::Conflict,
+        paths: Paths::from_vec(paths),
     }
 }
 
+fn driver_broken(path: Bytes) -> Outcome {
+    Outcome::Refused(Refusal::DriverBroken {
+        path,
+        exit: Exit::Code(128),
+    })
+}
+
+fn pair(first: Bytes, second: Bytes) -> Outcome {
+    Outcome::Usage(UsageFault::Pair { first, second })
+}
+
+fn object_limit() -> Outcome {
+    Outcome::Limit {
+        what: LimitWhat::ObjectBytes,
+        number: 67_108_865,
+    }
+}
+
+// The id of the blob `hello`.
+fn hello_id() -> Result<Id, IdFault> {
+    Id::from_hex(b"ce013625030ba8dba906f756967f9e9ca394464a")
+}
+
+fn done(id: Id) -> Outcome {
+    Outcome::Done { head: Some(id) }
+}
+
 #[test]
-fn prints_stops(rt: HostRuntime) -> Result<(), Fail> {
+fn prints_a_conflict(rt: HostRuntime) -> Result<(), Fail> {
     let alloc = rt.alloc();
-    let a = Path::new(alloc, b"a")?;
-    let conflict = Outcome::Stopped {
-        kind: StopKind::Conflict,
-        paths: Paths::from_vec(vec![in alloc; a]?),
-    };
-    assert_eq!(rt;
-        report(alloc, &conflict)?.as_slice(),
-        b"stopped conflict\nU a\n".as_slice()
-    );
-    let broken = stopped(
-        alloc,
-        StopKind::DriverBroken {
-            path: bytes(alloc, b"a")?,
-            exit: Exit::Code(128),
-        },
-    );
-    assert_eq!(rt;
-        report(alloc, &broken)?.as_slice(),
-        b"stopped driver-broken a exit 128\n".as_slice()
-    );
-    let bad = stopped(
-        alloc,
-        StopKind::TodoBad {
-            line: 2,
-            kind: TodoKind::Command,
-        },
-    );
-    assert_eq!(rt;
-        report(alloc, &bad)?.as_slice(),
-        b"stopped todo-bad 2 command\n".as_slice()
-    );
-    let blocked = stopped(
-        alloc,
-        StopKind::Blocked(Reason::WouldOverwrite {
-            path: bytes(alloc, b"n")?,
-        }),
-    );
-    assert_eq!(rt;
-        report(alloc, &blocked)?.as_slice(),
-        b"stopped blocked would-overwrite n\n".as_slice()
-    );
+    let mut paths = Vec::new(alloc);
+    paths.push(Path::new(alloc, b"a")?)?;
+    prints(&rt, alloc, &conflict(paths), b"stopped conflict\nU a\n")?;
     Ok(())
 }
 
 #[test]
-fn prints_refusals_and_faults(rt: HostRuntime) -> Result<(), Fail> {
+fn prints_a_refusal(rt: HostRuntime) -> Result<(), Fail> {
     let alloc = rt.alloc();
-    let killed = Outcome::Refused(Refusal::DriverBroken {
-        path: bytes(alloc, b"a\\b\nc")?,
-        exit: Exit::Killed,
-    });
-    assert_eq!(rt;
-        report(alloc, &killed)?.as_slice(),
-        b"refused driver-broken a\\\\b\\nc killed\n".as_slice()
-    );
-    let moved = Outcome::Refused(Refusal::HeadMoved { found: None });
-    assert_eq!(rt;
-        report(alloc, &moved)?.as_slice(),
-        b"refused head-moved none\n".as_slice()
-    );
-    let pair = Outcome::Usage(UsageFault::Pair {
-        first: bytes(alloc, b"--continue")?,
-        second: bytes(alloc, b"UPSTREAM")?,
-    });
-    assert_eq!(rt;
-        report(alloc, &pair)?.as_slice(),
-        b"usage pair --continue UPSTREAM\n".as_slice()
-    );
-    let limit = Outcome::Limit {
-        what: LimitWhat::ObjectBytes,
-        number: 67_108_865,
-    };
-    assert_eq!(rt;
-        report(alloc, &limit)?.as_slice(),
-        b"limit object-bytes 67108865\n".as_slice()
-    );
+    let broken = driver_broken(bytes(alloc, b"a\\b\nc")?);
+    let text = b"refused driver-broken a\\\\b\\nc exit 128\n";
+    prints(&rt, alloc, &broken, text)?;
+    Ok(())
+}
+
+#[test]
+fn prints_usage(rt: HostRuntime) -> Result<(), Fail> {
+    let alloc = rt.alloc();
+    let first = bytes(alloc, b"--continue")?;
+    let second = bytes(alloc, b"UPSTREAM")?;
+    let text = b"usage pair --continue UPSTREAM\n";
+    prints(&rt, alloc, &pair(first, second), text)?;
+    Ok(())
+}
+
+#[test]
+fn prints_a_limit(rt: HostRuntime) -> Result<(), Fail> {
+    let text = b"limit object-bytes 67108865\n";
+    prints(&rt, rt.alloc(), &object_limit(), text)?;
     Ok(())
 }
 
 #[test]
 fn prints_what_is_done(rt: HostRuntime) -> Result<(), Fail> {
-    let alloc = rt.alloc();
-    let id = Id::from_hex(b"ce013625030ba8dba906f756967f9e9ca394464a")?;
-    let done = Outcome::Done { head: Some(id) };
-    assert_eq!(rt;
-        report(alloc, &done)?.as_slice(),
-        b"done ce013625030ba8dba906f756967f9e9ca394464a\n".as_slice()
-    );
-    assert_eq!(rt;
-        report(alloc, &Outcome::Done { head: None })?.as_slice(),
-        b"done unborn\n".as_slice()
-    );
-    assert_eq!(rt;
-        report(alloc, &Outcome::StoreFault)?.as_slice(),
-        b"store-fault\n".as_slice()
-    );
+    let text = b"done ce013625030ba8dba906f756967f9e9ca394464a\n";
+    prints(&rt, rt.alloc(), &done(hello_id()?), text)?;
     Ok(())
 }
