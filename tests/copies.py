@@ -18,6 +18,7 @@ class Case:
         self.back = os.path.join(folder, "back")
         os.mkdir(self.source)
         self.git("init", "-q")
+        self.settings = self.git("config", "--local", "--name-only", "--list").decode().split()
 
     def git(self, *words, stdin=b""):
         return git(self.source, self.env, *words, stdin=stdin)
@@ -35,6 +36,10 @@ class Case:
         self.git("add", "-A")
         self.git("commit", "-q", "-m", message)
         return self.git("rev-parse", "HEAD").strip().decode()
+
+    def warning(self, *more):
+        """The warning that the settings of `git init`, and these, are left out."""
+        return f"rawgit: .git/config is left out, with {', '.join([*self.settings, *more])}"
 
     def object_file(self, name):
         return os.path.join(self.source, ".git", "objects", name[:2], name[2:])

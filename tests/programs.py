@@ -48,7 +48,10 @@ def environment(home):
 
 def run(words, folder, env, stdin=b""):
     """The exit status, and what was printed on standard output and on standard error."""
-    done = subprocess.run(words, cwd=folder, env=env, input=stdin, capture_output=True, timeout=SECONDS, check=False)
+    try:
+        done = subprocess.run(words, cwd=folder, env=env, input=stdin, capture_output=True, timeout=SECONDS, check=False)
+    except subprocess.TimeoutExpired:
+        return "hangs", b"", b""
     return done.returncode, done.stdout, done.stderr
 
 
@@ -101,7 +104,7 @@ def is_there(name):
 def gitseq():
     """The program, or None: the one that GITSEQ names, else the one that was built."""
     named = os.environ.get("GITSEQ")
-    if named and not os.path.exists(named):
+    if named and not os.access(named, os.X_OK):
         sys.exit(f"there is no program {named}, which GITSEQ names")
     found = named or BUILT
     return os.path.abspath(found) if os.path.exists(found) else None
