@@ -62,7 +62,7 @@ def import_object(line, stream, objects):
 
 
 def import_objects(source, folder):
-    """Writes all objects that git has there, those of its packs and alternates too. What git says of them stands on standard error."""
+    """Writes all objects that git has there, those of its packs and alternates too. Git's own words on standard error stand."""
     words = git_words(source, ["cat-file", "--batch", "--batch-all-objects", "--unordered", "--buffer"])
     objects = ObjectFolder(folder)
     with subprocess.Popen(words, env=git_environment(source), stdin=subprocess.DEVNULL, stdout=subprocess.PIPE) as process:
