@@ -13,3 +13,4 @@ pub mod Places
 pub mod Objects
 pub mod Repositories
 pub mod Rests
+pub mod RefPaths
