@@ -14,3 +14,8 @@ pub mod Objects
 pub mod Repositories
 pub mod Rests
 pub mod RefPaths
+pub mod CharFronts
+pub mod CharEnds
+pub mod Pairs
+pub mod RefFronts
+pub mod RefFrontLaws

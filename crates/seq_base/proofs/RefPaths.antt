@@ -100,7 +100,7 @@ below_folder folder name front good h =
     (split ∙ and_from _ _ good (store_parts (parts name) is.parts_are (all_in_parts is_ref_byte name is.bytes)))
 
 -- what holds at HEAD and of each name below `refs/`
-each_name : (P : List ℕ → Type 0) (name : List ℕ) → P (codes "HEAD") → (is_below_refs name ≡ true → P name) → IsRefName name → P name
+pub each_name : (P : List ℕ → Type 0) (name : List ℕ) → P (codes "HEAD") → (is_below_refs name ≡ true → P name) → IsRefName name → P name
 each_name P name head below h = elim (or_cases (bytes_eq name (codes "HEAD")) (is_below_refs name) h) [
   | inl is ↦ subst P (sym ((bytes_eq-Decides name (codes "HEAD")).0 is)) head
   | inr is ↦ below is

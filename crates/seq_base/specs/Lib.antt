@@ -10,3 +10,4 @@ pub mod Steps
 pub mod StatePaths
 pub mod Repository
 pub mod RefNames
+pub mod RefNameFronts

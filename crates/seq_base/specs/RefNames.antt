@@ -1,9 +1,11 @@
 -- Names of refs (git-check-ref-format(1); that a name is UTF-8, and begins with `refs/` or is HEAD, is asked besides).
-use Rattle.std.specs.Prelude.{◌≡◌, ℕ, Bool, true, not, ◌&&◌, ◌||◌, ◌==◌, nat_eq, nat_lt, List, length, drop, slice_index, codes}
+use Rattle.std.specs.Prelude.{◌≡◌, ℕ, ◌+◌, ◌<◌, ◌≤◌, Bool, true, not, ◌&&◌, ◌||◌, ◌==◌, nat_eq, nat_lt, List, ◌++◌, length, take, drop, slice_index, codes}
 use Rattle.std.specs.List.{list_all, list_any, starts_with, ends_with, zip}
 use Rattle.std.specs.Str.{bytes_eq}
 use Rattle.seq_base.specs.Paths.{parts}
 use Rattle.seq_base.specs.StorePaths.{is_text}
+use Rattle.seq_base.specs.declared.ref_name.RefNameFault.{RefNameFault}
+use Rattle.seq_base.specs.declared.ref_name.RefNameFault.TheVariants.{Bad}
 
 -- no control byte, no SP, and none that git has a use for
 abbrev pub is_ref_byte : ℕ → Bool
@@ -29,3 +31,17 @@ is_ref_name name = bytes_eq name (codes "HEAD") || is_below_refs name
 
 abbrev pub IsRefName : List ℕ → Type 0
 IsRefName name = is_ref_name name ≡ true
+
+-- some name begins so
+abbrev pub BeginsRefName : List ℕ → Type 0
+BeginsRefName front = (rest : List ℕ) × IsRefName (front ++ rest)
+
+-- Bytes that are no name: the place of the first with which no name goes on, or their length where they end too early.
+pub record IsBadInRefName (name : List ℕ) (at : ℕ) : Type 0 where
+  pub within : at ≤ length name
+  pub goes_on : BeginsRefName (take at name)
+  pub no_further : at < length name → BeginsRefName (take (at + 1) name) → ⊥
+  pub no_name : IsRefName name → ⊥
+
+abbrev pub IsRefNameFault : List ℕ → RefNameFault → Type 0
+IsRefNameFault name (Bad at) = IsBadInRefName name at
