@@ -13,3 +13,9 @@ pub mod Places
 pub mod Objects
 pub mod Repositories
 pub mod Rests
+pub mod RefPaths
+pub mod CharFronts
+pub mod CharEnds
+pub mod Pairs
+pub mod RefFronts
+pub mod RefFrontLaws

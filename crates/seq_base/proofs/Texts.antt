@@ -1,6 +1,7 @@
 -- Text, as a test.
-use Rattle.std.proofs.Common.{◌≡◌, ℕ, Bool, true, false, ◌&&◌, ◌||◌, nat_lt, List, [], ◌∷◌, refl, arith}
+use Rattle.std.proofs.Common.{◌≡◌, ℕ, Bool, true, false, ◌&&◌, ◌||◌, nat_lt, List, [], ◌∷◌, inl, inr, refl, arith}
 use Rattle.std.proofs.lemmas.Str.{IsUtf8-from_is_utf8, IsUtf8-from_ascii, is_utf8-from_IsUtf8}
+use Rattle.std.proofs.lemmas.Bool.{or_cases}
 use Rattle.std.proofs.lemmas.Bool.Decides.{nat_tests}
 use Rattle.std.proofs.lemmas.Str.Ascii.{IsAscii-cons, IsAscii-nil}
 use Rattle.std.specs.Char.{is_ascii}
@@ -32,5 +33,11 @@ or_none false b h k = k
 
 pub is_text-other : (bytes : List ℕ) → (IsUtf8 bytes → ⊥) → is_text bytes ≡ false
 is_text-other bytes h = or_none (list_all is_ascii bytes) (is_utf8 bytes) (none_true (list_all is_ascii bytes) (λ e. h (IsUtf8-from_ascii bytes (ascii bytes e)))) (none_true (is_utf8 bytes) (λ e. h (IsUtf8-from_is_utf8 bytes e)))
+
+pub utf8-is_text : (bytes : List ℕ) → is_text bytes ≡ true → IsUtf8 bytes
+utf8-is_text bytes h = elim (or_cases (list_all is_ascii bytes) (is_utf8 bytes) h) [
+  | inl e ↦ IsUtf8-from_ascii bytes (ascii bytes e)
+  | inr e ↦ IsUtf8-from_is_utf8 bytes e
+]
 
 pub ruleset text_tests = (is_text-utf8, is_text-other)

@@ -9,3 +9,5 @@ pub mod StorePaths
 pub mod Steps
 pub mod StatePaths
 pub mod Repository
+pub mod RefNames
+pub mod RefNameFronts

@@ -1,6 +1,6 @@
 //! What the definitions of `specs/` come to in plain words. Each law is the contract of a function that does nothing.
 
-ghost use Rattle.std.specs.Prelude.{ℕ, ◌≡◌, ◌≢◌, ◌↔◌, ◌<◌, ◌≤◌, ◌∷◌, ◌++◌, All, Contains, List, Some, length, map, false, true};
+ghost use Rattle.std.specs.Prelude.{ℕ, ◌≡◌, ◌≢◌, ◌↔◌, ◌<◌, ◌≤◌, ◌∷◌, ◌++◌, All, Contains, List, Some, codes, length, map, false, true};
 ghost use Rattle.std.specs.Char.{to_ascii_lowercase};
 ghost use Rattle.std.specs.List.{AllPairs, join_with_byte};
 ghost use Rattle.std.specs.Str.{IsUtf8};
@@ -8,6 +8,9 @@ ghost use Rattle.hex.specs.Hex.{encode_lower, encode_upper};
 ghost use Rattle.seq_base.specs.Ids.{SpellsId};
 ghost use Rattle.seq_base.specs.Modes.{mode_number, mode_text, octal};
 ghost use Rattle.seq_base.specs.PathMaps.{IsPathMap, clashes, entry_at, is_folder_of, is_less, put};
+ghost use Rattle.seq_base.specs.RefNames.{IsRefName};
+ghost use Rattle.seq_base.specs.Repository.{is_in_place};
+ghost use Rattle.seq_base.specs.StorePaths.{IsStorePath};
 ghost use Rattle.seq_base.specs.Paths.{IsFirstBad, IsPath, IsPlainPart, first_bad, parts};
 ghost use Rattle.seq_base.specs.World.{is_below};
 
@@ -64,4 +67,14 @@ pub fn entry_is_held(entries: &[(Path, Entry)], path: &Path, entry: Entry)
 pub fn put_changes_one_path(entries: &[(Path, Entry)], path: &Path, entry: Entry)
     ensures found { entry_at (put entries.now path.now entry) path.now ≡ Some entry }
     ensures others { (other : List ℕ) → other ≢ path.now → entry_at (put entries.now path.now entry) other ≡ entry_at entries.now other }
+{}
+
+/// The file of a ref and that of its log may be held by a store, and stand in no other file's place.
+#[tactic(auto, using(crate::proofs::RefPaths::ref_paths))]
+pub fn ref_has_store_paths(name: &[u8])
+    requires { IsRefName name.now }
+    ensures stored { IsStorePath (codes ".git/" ++ name.now) }
+    ensures in_place { is_in_place (codes ".git/" ++ name.now) ≡ true }
+    ensures log_stored { IsStorePath (codes ".git/logs/" ++ name.now) }
+    ensures log_in_place { is_in_place (codes ".git/logs/" ++ name.now) ≡ true }
 {}

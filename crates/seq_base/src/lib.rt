@@ -7,6 +7,8 @@ pub mod laws;
 mod map;
 mod mode;
 mod path;
+mod ref_front;
+mod ref_name;
 mod store_path;
 
 pub use bytes::Bytes;
@@ -14,4 +16,6 @@ pub use id::{Id, IdFault};
 pub use map::{Entry, InsertFault, PathMap};
 pub use mode::Mode;
 pub use path::{Path, PathFault};
+pub use ref_front::RefFront;
+pub use ref_name::{RefNameFault, check_ref_name, is_ref_name};
 pub use store_path::{is_store_path, is_text};

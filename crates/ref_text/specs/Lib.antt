@@ -1,0 +1,5 @@
+pub mod Heads
+pub mod Packed
+pub mod Logs
+pub mod Faults
+pub mod Refs

@@ -1,0 +1,10 @@
+//! Refs as text: HEAD, the packed refs and reflogs; and in `specs/` what the refs of a world are.
+#![tactic(auto)]
+
+mod fault;
+mod head;
+mod log;
+
+pub use fault::{HeadFault, LineFault};
+pub use head::{Head, head_text};
+pub use log::{LogLine, log_text};
