@@ -1,5 +1,5 @@
 -- What stands after writes, as far as they were made.
-use Rattle.std.proofs.Common.{◌≡◌, ◌⊎◌, inl, inr, ℕ, suc, ◌-◌, ◌<◌, Bool, true, false, cond, List, [], ◌∷◌, length, take, drop, get_or, Some, None, Err, refl, sym, ap, subst, ◌∙◌, arith}
+use Rattle.std.proofs.Common.{◌≡◌, ◌⊎◌, inl, inr, ℕ, ◌-◌, ◌<◌, Bool, true, false, cond, List, ◌∷◌, length, take, drop, get_or, Some, None, Err, refl, sym, ap, subst, ◌∙◌}
 use Rattle.std.proofs.lemmas.Bool.{and_parts, or_parts, both_ways, not-true}
 use Rattle.std.specs.Cmp.Lexicographic.{nat_list_cmp_total}
 use Rattle.std.specs.FinMap as map
@@ -15,6 +15,7 @@ use Rattle.seq_outside.specs.declared.store.StoreError.{StoreError}
 use Rattle.seq_outside.specs.declared.store.StoreError.TheVariants.{Failed, Blocked, Memory}
 use Rattle.seq_outside.specs.declared.write.Write.{Write}
 use Rattle.seq_outside.specs.declared.write.Write.TheVariants.{Put, Remove}
+use Rattle.seq_outside.proofs.Firsts.{first_and_others}
 use Rattle.seq_outside.specs.Writes.{AgreesWith, HasStorePath, IsInPlace, IsToward, WriteLeaves, after, are_free, is_free, is_written, path_of, written}
 
 -- a file that the write does not name
@@ -90,17 +91,6 @@ pub next_free : (old now : World) (writes : List Write) (x : Write) (rest : List
 next_free old now writes x rest way free blocked = both_ways (is_free now x) blocked (and_parts (is_free now x) (are_free (after now x) rest) (way.free free)).0
 
 -- ---- where the rest is a list whose first write is made
-
-first_and_others : {X : Type 0} (xs : List X) (x : X) → 0 < length xs → x ≡ get_or xs 0 x → xs ≡ x ∷ take (length xs - 1) (drop 1 xs)
-first_and_others [] x some is = absurd (omega arith)
-first_and_others (y ∷ ys) x some is = ap (λ (z : _). z ∷ ys) (sym is) ∙ ap (λ (zs : List _). x ∷ zs) (all ys ∙ ap (λ (n : ℕ). take n ys) (one_less (length ys)))
-  where
-    one_less : (n : ℕ) → n ≡ suc n - 1
-    one_less n = omega arith
-
-    all : {X : Type 0} (ys : List X) → ys ≡ take (length ys) ys
-    all [] = refl
-    all (y ∷ ys) = ap (λ (zs : List _). y ∷ zs) (all ys)
 
 pub goes_on_at : (old now new : World) (writes rest : List Write) (x : Write) → Way old now writes rest → 0 < length rest → x ≡ get_or rest 0 x → is_free now x ≡ true → new ≡ after now x
     → Way old new writes (take (length rest - 1) (drop 1 rest))

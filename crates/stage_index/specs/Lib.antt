@@ -1,0 +1,4 @@
+pub mod Stages
+pub mod Least
+pub mod Changes
+pub mod Walks
