@@ -2,3 +2,4 @@ pub mod Orders
 pub mod Leasts
 pub mod Differences
 pub mod Staging
+pub mod Changing
