@@ -3,3 +3,5 @@ pub mod Leasts
 pub mod Differences
 pub mod Staging
 pub mod Changing
+pub mod Tracking
+pub mod Indexing

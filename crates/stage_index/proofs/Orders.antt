@@ -14,7 +14,7 @@ less_is Less h = refl
 less_is Equal h = absurd cc
 less_is Greater h = absurd cc
 
-less_from : (p q : List ℕ) → is_less p q ≡ true → slice_cmp nat_cmp p q ≡ Less
+pub less_from : (p q : List ℕ) → is_less p q ≡ true → slice_cmp nat_cmp p q ≡ Less
 less_from p q h = less_is (slice_cmp nat_cmp p q) h
 
 pub same_path : (p : List ℕ) → bytes_eq p p ≡ true
