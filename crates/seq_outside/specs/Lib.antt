@@ -3,3 +3,4 @@ pub mod Store
 pub mod Child
 pub mod Sink
 pub mod Env
+pub mod Writes

@@ -7,9 +7,11 @@ mod clock;
 mod env;
 mod sink;
 mod store;
+mod write;
 
 pub use child::{ChildError, Exit, Job, Spawner, Words};
 pub use clock::Clock;
 pub use env::{Env, Variables, is_zone};
 pub use sink::{Sink, SinkError};
 pub use store::{Store, StoreError};
+pub use write::{Write, write_all};

@@ -1,0 +1,47 @@
+//! The index that has a map's entries.
+
+ghost use Rattle.std.specs.Prelude.{◌≡◌, IfOk};
+ghost use Rattle.index_file.specs.Entries.{IsInOrder};
+ghost use Rattle.index_file.specs.Index.{indexed};
+ghost use Rattle.stage_index.specs.Stages.{map_of};
+
+use index_file::IndexEntry;
+use seq_base::{Path, PathMap};
+use std::alloc::{AllocError, Global};
+
+fn copy_of(path: &Path) -> Result<Path, AllocError>
+    ensures { IfOk result (λ copy. copy ≡ path.now) }
+{
+    path.clone()
+}
+
+fn copied(alloc: Global, map: &PathMap) -> Result<Vec<IndexEntry>, AllocError>
+    ensures { IfOk result (λ entries. entries.items ≡ indexed map.now) }
+{
+    let mut entries = Vec::new(alloc);
+    let mut n = 0;
+    while let Some((path, entry)) = map.at(n) {
+        let _length = map.len();
+        entries.push(IndexEntry {
+            path: copy_of(path)?,
+            stage: 0,
+            mode: entry.mode,
+            id: entry.id,
+        })?;
+        n += 1;
+    }
+    Ok(entries)
+}
+
+/// The map's entries, each merged (git-read-tree(1)).
+pub fn from_map(alloc: Global, map: &PathMap) -> Result<Vec<IndexEntry>, AllocError>
+    ensures indexed { IfOk result (λ entries. entries.items ≡ indexed map.now) }
+
+    // They follow from `indexed`.
+    ensures order { IfOk result (λ entries. IsInOrder entries.items) }
+    ensures map { IfOk result (λ entries. map_of entries.items ≡ map.now) }
+{
+    let _length = map.len();
+    let entries = copied(alloc, map)?;
+    Ok(entries)
+}

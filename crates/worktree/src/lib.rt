@@ -1,0 +1,9 @@
+//! The files of a worktree: what is changed, and how they follow the index.
+#![tactic(auto)]
+
+mod blob;
+mod changed;
+mod fault;
+
+pub use changed::first_change;
+pub use fault::WorkFault;
