@@ -1,0 +1,10 @@
+//! Objects in a store, each in a file of its own by its id.
+#![tactic(auto)]
+
+mod fault;
+mod place;
+mod read;
+
+pub use fault::ObjectFault;
+pub use place::CONTENT_LIMIT;
+pub use read::get;
