@@ -144,16 +144,17 @@ apart_with (y ∷ ys) x apart = at (apart_with ys x apart.1) (is_at (path_of x) 
     at later true e = (ap (is_written ys) (same_path (path_of x) (path_of y) e) ∙ apart.0, apart.1)
     at later false e = (is_written_with ys x (path_of y) ∙ rw (apart.0, apart_back x y e) refl, later)
 
-paths_with : (xs : List Write) (x : Write) → AllByRecursion HasStorePath xs → HasStorePath x → AllByRecursion HasStorePath (with_write xs x)
-paths_with [] x paths path = (path, tt)
-paths_with (y ∷ ys) x paths path = at (paths_with ys x paths.1 path) (is_at (path_of x) y)
-  where
-    at : AllByRecursion HasStorePath (with_write ys x) → (b : Bool) → AllByRecursion HasStorePath (cond b (x ∷ ys) (y ∷ with_write ys x))
-    at later true = (path, paths.1)
-    at later false = (paths.0, later)
+module _ (P : Write → Type 0) where
+  pub all_with : (xs : List Write) (x : Write) → AllByRecursion P xs → P x → AllByRecursion P (with_write xs x)
+  all_with [] x all one = (one, tt)
+  all_with (y ∷ ys) x all one = at (all_with ys x all.1 one) (is_at (path_of x) y)
+    where
+      at : AllByRecursion P (with_write ys x) → (b : Bool) → AllByRecursion P (cond b (x ∷ ys) (y ∷ with_write ys x))
+      at later true = (one, all.1)
+      at later false = (all.0, later)
 
 pub draft_with : (xs : List Write) (x : Write) → IsDraft xs → HasStorePath x → IsDraft (with_write xs x)
-draft_with xs x draft path = record { apart = apart_with xs x draft.apart; paths = paths_with xs x draft.paths path }
+draft_with xs x draft path = record { apart = apart_with xs x draft.apart; paths = all_with HasStorePath xs x draft.paths path }
 
 -- ---- what `Draft` needs of it, with the writes of the draft as it was
 
@@ -163,6 +164,9 @@ module _ (xs ys : List Write) (x : Write) (is : ys ≡ with_write xs x) where
 
   pub set_done : IsDraft xs → (w : World) → written w ys ≡ after (written w xs) x
   set_done draft w = rw is (written_with w xs x draft.apart)
+
+  pub set_all : (P : Write → Type 0) → AllByRecursion P xs → P x → AllByRecursion P ys
+  set_all P all one = rw is (all_with P xs x all one)
 
   pub set_named : (q : List ℕ) → is_written ys q ≡ (is_written xs q || is_at q x)
   set_named q = rw is (is_written_with xs x q)

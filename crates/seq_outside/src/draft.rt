@@ -4,12 +4,13 @@ ghost use Rattle.std.specs.FinMap as map;
 ghost use Rattle.std.specs.Ordering.{eq_by_cmp};
 ghost use Rattle.std.specs.Prelude.{◌≡◌, ◌||◌, false, true, [], IfNone, IfOk, IfSome, IsErrOf, List, OnErr, OnOk, option_map, ℕ};
 ghost use Rattle.std.specs.List.{AllByRecursion};
-ghost use Rattle.seq_base.specs.Repository.{IsRepository};
+ghost use Rattle.seq_base.specs.Paths.{parts};
+ghost use Rattle.seq_base.specs.Repository.{IsRepository, is_file_place, is_in_place};
 ghost use Rattle.seq_base.specs.StorePaths.{IsStorePath};
 ghost use Rattle.seq_base.specs.World.{World, path_cmp};
 ghost use Rattle.seq_outside.specs.Drafts.{IsBetween, IsPlace, is_at as is_at_path, with_write};
 ghost use Rattle.seq_outside.specs.Store.{HasStoreCause};
-ghost use Rattle.seq_outside.specs.Writes.{HasStorePath, IsInPlace, after, are_free, is_written, written};
+ghost use Rattle.seq_outside.specs.Writes.{HasStorePath, IsInPlace, IsKept, after, are_free, is_written, written};
 
 use crate::store::{Store, StoreError};
 use crate::write::{Write, write_all};
@@ -104,6 +105,8 @@ impl Draft {
         ensures writes { OnOk result (self.new ≡ with_write self.old write) }
         ensures done { OnOk result ((w : World) → written w self.new ≡ after (written w self.old) write) }
         ensures named { OnOk result ((q : List ℕ) → is_written self.new q ≡ (is_written self.old q || is_at_path q write)) }
+        ensures in_place { OnOk result (AllByRecursion IsInPlace self.old → IsInPlace write → AllByRecursion IsInPlace self.new) }
+        ensures kept { OnOk result (AllByRecursion IsKept self.old → IsKept write → AllByRecursion IsKept self.new) }
         ensures err { OnErr result (self.new ≡ self.old) }
     {
         set_write(&mut self.writes, write)?;
@@ -116,6 +119,8 @@ impl Draft {
         ensures writes { OnOk result (self.new ≡ with_write self.old (Write.Put path bytes)) }
         ensures done { OnOk result ((w : World) → written w self.new ≡ map.insert (written w self.old) path bytes) }
         ensures named { OnOk result ((q : List ℕ) → is_written self.new q ≡ (is_written self.old q || eq_by_cmp path_cmp q path)) }
+        ensures in_place { OnOk result (AllByRecursion IsInPlace self.old → is_in_place path ≡ true → AllByRecursion IsInPlace self.new) }
+        ensures kept { OnOk result (AllByRecursion IsKept self.old → is_file_place (parts path) ≡ true → AllByRecursion IsKept self.new) }
         ensures err { OnErr result (self.new ≡ self.old) }
     {
         self.set(Write::Put { path, bytes })
@@ -127,6 +132,8 @@ impl Draft {
         ensures writes { OnOk result (self.new ≡ with_write self.old (Write.Remove path)) }
         ensures done { OnOk result ((w : World) → written w self.new ≡ map.remove (written w self.old) path) }
         ensures named { OnOk result ((q : List ℕ) → is_written self.new q ≡ (is_written self.old q || eq_by_cmp path_cmp q path)) }
+        ensures in_place { OnOk result (AllByRecursion IsInPlace self.old → is_in_place path ≡ true → AllByRecursion IsInPlace self.new) }
+        ensures kept { OnOk result (AllByRecursion IsKept self.old → is_file_place (parts path) ≡ true → AllByRecursion IsKept self.new) }
         ensures err { OnErr result (self.new ≡ self.old) }
     {
         self.set(Write::Remove { path })
@@ -138,6 +145,7 @@ impl Draft {
         ensures between { S.told → IsBetween (S.content store.old) self.now (S.content store.new) }
         ensures elsewhere { S.told → (path : List ℕ) → is_written self.now path ≡ false → map.get (S.content store.new) path ≡ map.get (S.content store.old) path }
         ensures free { S.told → are_free (S.content store.old) self.now ≡ true → IsErrOf result StoreError.Blocked → ⊥ }
+        ensures kept { S.told → IsRepository (S.content store.old) → AllByRecursion IsKept self.now → IsErrOf result StoreError.Blocked → ⊥ }
         ensures repository { S.told → IsRepository (S.content store.old) → AllByRecursion IsInPlace self.now → IsRepository (S.content store.new) }
         ensures cause { HasStoreCause result (S.faults store.old) (S.faults store.new) (S.blocked store.old) (S.blocked store.new) }
     {
