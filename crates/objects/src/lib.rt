@@ -1,10 +1,12 @@
 //! Objects in a store, each in a file of its own by its id.
 #![tactic(auto)]
 
+mod draft;
 mod fault;
 mod place;
 mod read;
 
+pub use draft::draft_object;
 pub use fault::ObjectFault;
 pub use place::CONTENT_LIMIT;
 pub use read::get;

@@ -2,13 +2,12 @@
 use Rattle.std.proofs.Common.{◌≡◌, true, List, [], ◌∷◌, ◌++◌, refl}
 use Rattle.std.proofs.lemmas.Bool.{and_from, and_parts, not_from_false}
 use Rattle.std.specs.List.{AllByRecursion}
-use Rattle.seq_base.specs.Paths.{parts}
-use Rattle.seq_base.specs.Repository.{IsRepository, is_file_place}
+use Rattle.seq_base.specs.Repository.{IsRepository}
 use Rattle.seq_base.specs.World.{World, is_blocked}
 use Rattle.seq_base.proofs.Repositories.{kept_is_free, removed_repository, stays_repository_kept}
 use Rattle.seq_outside.specs.declared.write.Write.{Write}
 use Rattle.seq_outside.specs.declared.write.Write.TheVariants.{Put, Remove}
-use Rattle.seq_outside.specs.Writes.{after, are_free, is_free, path_of, written}
+use Rattle.seq_outside.specs.Writes.{IsKept, after, are_free, is_free, written}
 
 pub written-append : (w : World) (xs ys : List Write) → written w (xs ++ ys) ≡ written (written w xs) ys
 written-append w [] ys = refl
@@ -17,10 +16,6 @@ written-append w (x ∷ xs) ys = written-append (after w x) xs ys
 pub free-append : (w : World) (xs ys : List Write) → are_free w xs ≡ true → are_free (written w xs) ys ≡ true → are_free w (xs ++ ys) ≡ true
 free-append w [] ys p q = q
 free-append w (x ∷ xs) ys p q = let both = and_parts (is_free w x) (are_free (after w x) xs) p in and_from (is_free w x) (are_free (after w x) (xs ++ ys)) both.0 (free-append (after w x) xs ys both.1 q)
-
--- a write where a repository keeps a file
-abbrev pub IsKept : Write → Type 0
-IsKept x = is_file_place (parts (path_of x)) ≡ true
 
 kept_free : (w : World) (x : Write) → IsRepository w → IsKept x → is_free w x ≡ true
 kept_free w (Put path bytes) repository kept = not_from_false (is_blocked w path) (kept_is_free w path repository kept)

@@ -1,3 +1,4 @@
 pub mod Firsts
 pub mod Written
 pub mod FreeWrites
+pub mod Drafts

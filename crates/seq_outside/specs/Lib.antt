@@ -4,3 +4,4 @@ pub mod Child
 pub mod Sink
 pub mod Env
 pub mod Writes
+pub mod Drafts

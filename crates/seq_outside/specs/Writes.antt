@@ -3,7 +3,8 @@ use Rattle.std.specs.Prelude.{◌≡◌, ◌⊎◌, ℕ, Bool, true, false, not,
 use Rattle.std.specs.FinMap as map
 use Rattle.std.specs.List.{AllByRecursion, list_any}
 use Rattle.std.specs.Ordering.{eq_by_cmp}
-use Rattle.seq_base.specs.Repository.{is_in_place}
+use Rattle.seq_base.specs.Paths.{parts}
+use Rattle.seq_base.specs.Repository.{is_file_place, is_in_place}
 use Rattle.seq_base.specs.StorePaths.{IsStorePath}
 use Rattle.seq_base.specs.World.{World, is_blocked, path_cmp}
 use Rattle.seq_outside.specs.declared.store.StoreError.{StoreError}
@@ -51,6 +52,10 @@ are_free w (write ∷ writes) = is_free w write && are_free (after w write) writ
 
 abbrev pub HasStorePath : Write → Type 0
 HasStorePath write = IsStorePath (path_of write)
+
+-- the file is one that a repository keeps
+abbrev pub IsKept : Write → Type 0
+IsKept write = is_file_place (parts (path_of write)) ≡ true
 
 -- the file may stand in a repository
 abbrev pub IsInPlace : Write → Type 0

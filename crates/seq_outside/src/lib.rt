@@ -4,6 +4,7 @@
 
 mod child;
 mod clock;
+mod draft;
 mod env;
 mod sink;
 mod store;
@@ -11,6 +12,7 @@ mod write;
 
 pub use child::{ChildError, Exit, Job, Spawner, Words};
 pub use clock::Clock;
+pub use draft::Draft;
 pub use env::{Env, Variables, is_zone};
 pub use sink::{Sink, SinkError};
 pub use store::{Store, StoreError};

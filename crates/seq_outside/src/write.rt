@@ -2,14 +2,15 @@
 
 ghost use Rattle.std.specs.FinMap as map;
 ghost use Rattle.std.specs.List.{AllByRecursion};
-ghost use Rattle.std.specs.Prelude.{◌≡◌, false, true, IsErrOf, List, OnOk, ℕ};
+ghost use Rattle.std.specs.Prelude.{◌≡◌, false, true, IfOk, IsErrOf, List, OnOk, option_map, ℕ};
 ghost use Rattle.seq_base.specs.Repository.{IsRepository};
+ghost use Rattle.seq_outside.specs.Drafts.{left_by};
 ghost use Rattle.seq_outside.specs.Store.{HasStoreCause};
-ghost use Rattle.seq_outside.specs.Writes.{HasStorePath, IsInPlace, IsToward, WriteLeaves, are_free, is_written, written};
+ghost use Rattle.seq_outside.specs.Writes.{HasStorePath, IsInPlace, IsToward, WriteLeaves, are_free, is_written, path_of, written};
 
 use crate::store::{Store, StoreError};
 use seq_base::Bytes;
-use std::alloc::Global;
+use std::alloc::{AllocError, Global};
 
 /// A change of one file.
 #[derive(Debug, Drop)]
@@ -18,6 +19,27 @@ pub enum Write {
     Put { path: Bytes, bytes: Bytes },
     /// The file is removed, if it is there.
     Remove { path: Bytes },
+}
+
+impl Write {
+    /// The file that is changed.
+    pub fn path(&self) -> &[u8]
+        ensures { result.now ≡ path_of self.now }
+    {
+        match self {
+            Write::Put { path, .. } | Write::Remove { path } => path.as_slice(),
+        }
+    }
+
+    /// What the write leaves of its file.
+    pub fn bytes(&self, alloc: Global) -> Result<Option<Vec<u8>>, AllocError>
+        ensures { IfOk result (λ found. option_map (λ bytes. bytes.items) found ≡ left_by self.now) }
+    {
+        match self {
+            Write::Put { bytes, .. } => Ok(Some(bytes.as_slice().to_vec(alloc)?)),
+            Write::Remove { .. } => Ok(None),
+        }
+    }
 }
 
 fn make<S: Store>(alloc: Global, store: &mut S, write: &Write) -> Result<(), StoreError>

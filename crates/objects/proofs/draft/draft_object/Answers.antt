@@ -1,0 +1,28 @@
+use Rattle.std.proofs.Common.{ap, sym, ◌∙◌}
+use Rattle.std.specs.FinMap as map
+use Rattle.std.specs.Ordering.{eq_by_cmp}
+use Rattle.seq_base.specs.World.{path_cmp}
+use Rattle.sha1.specs.Sha1.{sha1}
+use Rattle.seq_outside.specs.Writes.{is_written, written}
+use Rattle.objects.proofs.Drafting.{drafted_new, drafted_there, neither_new}
+use Rattle.objects.proofs.draft.draft_object.Goals as goal
+
+pub returns-in-Some-clause-drafted : goal.returns-in-Some-clause-drafted
+returns-in-Some-clause-drafted g c told =
+    let w = written (g.S.Store.content c.args.store.now) c.args.draft.now in
+    let path = c.deref-2.ensures.value ∙ c.in_ok-path.ensures.path in
+    let id = c.id_of_text-id.ensures ∙ ap sha1 (c.deref.ensures.value ∙ sym c.deref-in-Some.ensures.value) in
+    let found = rw c.in-Some.is at (c.in_ok-kept.ensures.found told) in
+    drafted_there w _ c.id_of_text-id.result c.deref-in-Some.result.now c.deref-2.result.now (c.deref-in-Some.ensures.value ∙ c.in_ok-text.ensures.text) id path c.in-Some.kept.items c.settle.result found c.settle.ensures
+
+pub returns-in_ok-put-in-None-clause-drafted : goal.returns-in_ok-put-in-None-clause-drafted
+returns-in_ok-put-in-None-clause-drafted g c told =
+    let v = g.S.Store.content c.args.store.now in
+    let w = written v c.args.draft.now in
+    let id = c.id_of_text-id.ensures ∙ ap sha1 c.deref.ensures.value in
+    let none = rw c.in-None.is at (c.in_ok-kept.ensures.found told) in
+    drafted_new w _ c.id_of_text-id.result c.in_ok-text.text.items c.in_ok-path.path.items c.in_ok-text.ensures.text id c.in_ok-path.ensures.path
+    (written v c.put.new.self) (none ∙ ap (map.get w) c.deref-2.ensures.value) (rw (c.from_vec.ensures, c.from_vec-in-None.ensures) at (c.in_ok-put-in-None.ensures.done v))
+
+pub returns-in_ok-put-in-None-clause-named : goal.returns-in_ok-put-in-None-clause-named
+returns-in_ok-put-in-None-clause-named g c q other = neither_new _ (is_written c.args.draft.now q) _ (c.in_ok-put-in-None.ensures.named q) (ap (eq_by_cmp path_cmp q) (c.from_vec.ensures ∙ c.in_ok-path.ensures.path) ∙ other)
