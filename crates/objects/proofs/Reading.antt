@@ -14,7 +14,7 @@ use Rattle.object_text.specs.ReadObjects.{object_from}
 use Rattle.object_text.specs.Store.{content_limit, object_at, object_in, object_of, object_path, value_read}
 use Rattle.object_text.proofs.ObjectLaws.{object_reads}
 use Rattle.seq_base.specs.World.{World}
-use Rattle.objects.specs.Reads.{GivesObject, HasFileRead, HasOtherId, IsGot, IsRead, IsTooLarge, IsWithinLimit, Reads}
+use Rattle.objects.specs.Reads.{GivesObject, HasFileRead, HasOtherId, IsGot, IsObjectTooLarge, IsRead, IsTooLarge, IsWithinLimit, Reads}
 use Rattle.objects.specs.declared.fault.ObjectFault.{ObjectFault}
 use Rattle.objects.specs.declared.fault.ObjectFault.TheVariants.{Missing, TooLarge, WrongHash, BadText, Collision, Fault, Memory}
 
@@ -116,3 +116,37 @@ got_object w id (Err (BadText at)) is = file_object w id (Err (BadText at)) is
 got_object w id (Err (Collision wanted kept)) is = absurd is
 got_object w id (Err Fault) is = tt
 got_object w id (Err Memory) is = tt
+
+-- ---- what is not too large
+
+within_not_large : (w : World) (id text : List ℕ) → map.get w (object_path id) ≡ Some text → IsWithinLimit text → (count : ℕ) → IsObjectTooLarge w id count → ⊥
+within_not_large w id text held within count large =
+    let same : large.0 ≡ text = cc (held, large.1) in
+    let is = large.2 in
+    let low : length is.object.bytes ≤ content_limit = within is.object (rw same at is.spelled) in
+    let above = is.above in
+    let count_is = is.count_is in
+    absurd (omega arith)
+
+abbrev pub IsSmall : Result Object ObjectFault → Type 0
+IsSmall (Ok o) = Unit {0}
+IsSmall (Err Missing) = Unit {0}
+IsSmall (Err (TooLarge count)) = ⊥
+IsSmall (Err (WrongHash wanted found)) = Unit {0}
+IsSmall (Err (BadText at)) = Unit {0}
+IsSmall (Err (Collision wanted kept)) = Unit {0}
+IsSmall (Err Fault) = ⊥
+IsSmall (Err Memory) = ⊥
+
+pub not_large : (w : World) (id : List ℕ) (r : Result Object ObjectFault) → IsGot w id r → IsSmall r → (count : ℕ) → IsObjectTooLarge w id count → ⊥
+not_large w id (Ok o) is small count large = within_not_large w id is.0 is.1 (only_within is.0 o (λ x spells. only x o is.0 spells is.2.spelled) is.2.within) count large
+  where
+    only : (x y : Object) (text : List ℕ) → IsObject x text → IsObject y text → x ≡ y
+    only x y text p q = let one = object_reads.again x text p in let two = object_reads.again y text q in cc
+not_large w id (Err Missing) is small count large = let there = large.1 in cc
+not_large w id (Err (TooLarge n)) is small count large = absurd small
+not_large w id (Err (WrongHash wanted found)) is small count large = within_not_large w id is.0 is.1 is.2.0 count large
+not_large w id (Err (BadText at)) is small count large = within_not_large w id is.0 is.1 (bad_within is.0 at is.2.1) count large
+not_large w id (Err (Collision wanted kept)) is small count large = absurd is
+not_large w id (Err Fault) is small count large = absurd small
+not_large w id (Err Memory) is small count large = absurd small

@@ -57,6 +57,14 @@ impl PathMap {
         }
     }
 
+    /// The map of these entries, which are in order.
+    pub fn from_entries(entries: Vec<(Path, Entry)>) -> PathMap
+        requires { IsPathMap entries.items }
+        ensures { result ≡ entries.items }
+    {
+        PathMap { entries }
+    }
+
     /// Gives a path an entry, in place of the one that it has.
     pub fn insert(&mut self, path: Path, entry: Entry) -> Result<(), InsertFault>
         requires { entry.mode ≢ Mode.Folder }

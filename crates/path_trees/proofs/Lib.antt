@@ -1,0 +1,5 @@
+pub mod Trees
+pub mod Order
+pub mod Paths
+pub mod Build
+pub mod Depth

@@ -1,0 +1,21 @@
+use Rattle.std.proofs.Common.{List, [], ◌∷◌, ◌++◌, ℕ, sym, ap, subst, ◌∙◌}
+use Rattle.seq_base.specs.Paths.{IsPathFaultOrMemory}
+use Rattle.object_text.specs.TreeMaps.{below, is_path_text}
+use Rattle.object_text.specs.declared.tree.TreeEntry.{TreeEntry}
+use Rattle.path_trees.proofs.Paths.{HasTaken, one_taken, path_passes, rows_fail}
+use Rattle.path_trees.proofs.rows.rows_of.Goals as goal
+
+pub returns-in-Err : goal.returns-in-Err
+returns-in-Err c =
+    let path = c.deref.ensures.value ∙ (c.in_ok-bytes.ensures ∙ ap (below c.args.folder.now) c.as_slice.ensures) in
+    let taken = subst (λ (es : List TreeEntry). HasTaken c.args.folder.now c.args.entries.items es c.rows.rows.items) c.in-Some.ensures.items c.rows.invariant in
+    let fault = subst (λ (p : List ℕ). IsPathFaultOrMemory p c.in-Err.fault) path c.in-Err.ensures.fault in
+    rw c.fault_of_path.ensures (rows_fail c.args.folder.now c.args.id c.args.entries.items c.pop.new.self.items c.in-Some.e c.rows.rows.items c.in-Err.fault taken c.requires.order c.requires.folder fault)
+
+pub rows-preserved : goal.rows-preserved
+rows-preserved c =
+    let path = c.deref.ensures.value ∙ (c.in_ok-bytes.ensures ∙ ap (below c.args.folder.now) c.as_slice.ensures) in
+    let taken = subst (λ (es : List TreeEntry). HasTaken c.args.folder.now c.args.entries.items es c.rows.rows.items) c.in-Some.ensures.items c.rows.invariant in
+    one_taken c.args.folder.now c.args.entries.items c.pop.new.self.items c.in-Some.e c.rows.rows.items c.push.new.self.items taken
+    (sym (ap is_path_text path) ∙ path_passes c.deref.result.now c.in-Ok.ensures.ok.1)
+    (c.in_ok-push-in-Ok.ensures.items ∙ ap (λ (p : List ℕ). c.rows.rows.items ++ (p, record { mode = c.in-Some.e.mode; id = c.in-Some.e.id }) ∷ []) (c.in-Ok.ensures.ok.0 ∙ path))
