@@ -2,3 +2,8 @@ pub mod WordLemmas
 pub mod NameLemmas
 pub mod LineLemmas
 pub mod TodoLemmas
+pub mod WordLaws
+pub mod CommandLaws
+pub mod ArgumentLaws
+pub mod FormLaws
+pub mod LineLaws

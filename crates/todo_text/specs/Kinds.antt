@@ -8,7 +8,7 @@ use Rattle.todo_text.specs.declared.todo_kind.TodoKind.{TodoKind}
 use Rattle.todo_text.specs.declared.todo_kind.TodoKind.TheVariants as fault
 use Rattle.todo_text.specs.declared.command.Command.{Command}
 use Rattle.todo_text.specs.declared.command.Command.TheVariants.{Pick, Fixup, Exec, Break, Noop, Label, Reset, Merge, UpdateRef}
-use Rattle.todo_text.specs.Words.{word, behind, has_word, is_hash}
+use Rattle.todo_text.specs.Words.{word, behind, lacks_word, lacks_head, is_hash}
 use Rattle.todo_text.specs.Names.{is_label, is_updatable}
 use Rattle.todo_text.specs.Commands.{command_of}
 use Rattle.todo_text.specs.Spells.{is_option}
@@ -19,37 +19,33 @@ use Rattle.todo_text.specs.Spells.{is_option}
 abbrev pub has_option : List ℕ → Bool
 has_option text = is_option (word text)
 
--- no word stands before `#`
-abbrev pub lacks_head : List ℕ → Bool
-lacks_head text = not (has_word text) || is_hash (word text)
-
 -- a word that does not begin a note stands behind the head
 abbrev pub has_second_head : List ℕ → Bool
-has_second_head text = has_word (behind text) && not (is_hash (word (behind text)))
+has_second_head text = not (lacks_word (behind text)) && not (is_hash (word (behind text)))
 
 -- an argument is missing: the commit, the command, the name or the head
 abbrev pub is_missing : Command → List ℕ → Bool
-is_missing (Pick k) text = not (has_word text)
-is_missing Fixup text = if has_option text then not (has_word (behind text)) else not (has_word text)
-is_missing Exec text = not (has_word text)
+is_missing (Pick k) text = lacks_word text
+is_missing Fixup text = if has_option text then lacks_word (behind text) else lacks_word text
+is_missing Exec text = lacks_word text
 is_missing Break text = false
 is_missing Noop text = false
-is_missing Label text = not (has_word text)
-is_missing Reset text = not (has_word text)
-is_missing Merge text = if has_option text then not (has_word (behind text)) || lacks_head (behind (behind text)) else lacks_head text
-is_missing UpdateRef text = not (has_word text)
+is_missing Label text = lacks_word text
+is_missing Reset text = lacks_word text
+is_missing Merge text = if has_option text then lacks_word (behind text) || lacks_head (behind (behind text)) else lacks_head text
+is_missing UpdateRef text = lacks_word text
 
 -- break or noop has an argument, or label or update-ref has more than one
 abbrev pub is_extra : Command → List ℕ → Bool
 is_extra (Pick k) text = false
 is_extra Fixup text = false
 is_extra Exec text = false
-is_extra Break text = has_word text
-is_extra Noop text = has_word text
-is_extra Label text = has_word (behind text)
+is_extra Break text = not (lacks_word text)
+is_extra Noop text = not (lacks_word text)
+is_extra Label text = not (lacks_word (behind text))
 is_extra Reset text = false
 is_extra Merge text = false
-is_extra UpdateRef text = has_word (behind text)
+is_extra UpdateRef text = not (lacks_word (behind text))
 
 abbrev pub is_bad_label : Command → List ℕ → Bool
 is_bad_label (Pick k) text = false

@@ -1,5 +1,5 @@
 -- A line is read word by word: the line, else the first thing that is wrong with it.
-use Rattle.std.specs.Prelude.{ℕ, Bool, not, ◌||◌, ◌==◌, if◌then◌else◌, List, [], ◌∷◌, length, codes, Option, Some, None, Result, Ok, Err}
+use Rattle.std.specs.Prelude.{ℕ, not, if◌then◌else◌, List, codes, Option, Some, None, Result, Ok, Err}
 use Rattle.std.specs.Str.{bytes_eq}
 use Rattle.todo_text.specs.declared.line.Line.{Line}
 use Rattle.todo_text.specs.declared.line.Line.TheVariants as line
@@ -11,7 +11,7 @@ use Rattle.todo_text.specs.declared.todo_kind.TodoKind.{TodoKind}
 use Rattle.todo_text.specs.declared.todo_kind.TodoKind.TheVariants as fault
 use Rattle.todo_text.specs.declared.command.Command.{Command}
 use Rattle.todo_text.specs.declared.command.Command.TheVariants.{Pick, Fixup, Exec, Break, Noop, Label, Reset, Merge, UpdateRef}
-use Rattle.todo_text.specs.Words.{from_word, trimmed, word, behind, has_word, is_hash, note_of}
+use Rattle.todo_text.specs.Words.{from_word, trimmed, word, behind, lacks_word, lacks_head, is_hash, note_of}
 use Rattle.todo_text.specs.Names.{is_label, is_updatable}
 use Rattle.todo_text.specs.Commands.{command_of}
 
@@ -20,13 +20,10 @@ abbrev pub ◌>>=◌ : {A B : Type 0} → Result A TodoKind → (A → Result B 
 (Ok x) >>= f = f x
 (Err kind) >>= f = Err kind
 
-abbrev pub is_no_word : List ℕ → Bool
-is_no_word w = length w == 0
-
 -- a commit and a note
 unfoldable pub rev_line : PickKind → List ℕ → Result Line TodoKind
 rev_line kind text =
-    if is_no_word (word text) then Err fault.Missing
+    if lacks_word text then Err fault.Missing
     else Ok (line.Pick kind (word text) (note_of (behind text)))
 
 unfoldable pub fixup_line : List ℕ → Result Line TodoKind
@@ -36,17 +33,17 @@ fixup_line text =
     else rev_line kind.Fixup text
 
 unfoldable pub exec_line : List ℕ → Result Line TodoKind
-exec_line text = if not (has_word text) then Err fault.Missing else Ok (line.Exec (from_word text))
+exec_line text = if lacks_word text then Err fault.Missing else Ok (line.Exec (from_word text))
 
 -- nothing more
 unfoldable pub lone_line : Line → List ℕ → Result Line TodoKind
-lone_line line text = if has_word text then Err fault.Extra else Ok line
+lone_line line text = if not (lacks_word text) then Err fault.Extra else Ok line
 
 -- one word and nothing more
 unfoldable pub lone_word : List ℕ → Result (List ℕ) TodoKind
 lone_word text =
-    if is_no_word (word text) then Err fault.Missing
-    else if has_word (behind text) then Err fault.Extra
+    if lacks_word text then Err fault.Missing
+    else if not (lacks_word (behind text)) then Err fault.Extra
     else Ok (word text)
 
 unfoldable pub label_line : List ℕ → Result Line TodoKind
@@ -61,29 +58,26 @@ update_line text = do
 
 unfoldable pub reset_line : List ℕ → Result Line TodoKind
 reset_line text =
-    if is_no_word (word text) then Err fault.Missing
+    if lacks_word text then Err fault.Missing
     else Ok (line.Reset (word text) (note_of (behind text)))
 
 -- nothing, or `#` and a note
 unfoldable pub merge_note : List ℕ → Result (List ℕ) TodoKind
 merge_note text =
-    if is_no_word (word text) then Ok (word text)
+    if lacks_word text then Ok (word text)
     else if is_hash (word text) then Ok (trimmed (behind text))
     else Err fault.Octopus
 
-abbrev pub is_no_head : List ℕ → Bool
-is_no_head w = is_no_word w || is_hash w
-
 unfoldable pub head_line : MergeHow → List ℕ → Result Line TodoKind
 head_line how text =
-    if is_no_head (word text) then Err fault.Missing
+    if lacks_head text then Err fault.Missing
     else merge_note (behind text) >>= λ note. Ok (line.Merge how (word text) note)
 
 unfoldable pub keep_line : List ℕ → Result Line TodoKind
-keep_line text = if is_no_word (word text) then Err fault.Missing else head_line (Keep (word text)) (behind text)
+keep_line text = if lacks_word text then Err fault.Missing else head_line (Keep (word text)) (behind text)
 
 unfoldable pub reword_line : List ℕ → Result Line TodoKind
-reword_line text = if is_no_word (word text) then Err fault.Missing else head_line (Reword (word text)) (behind text)
+reword_line text = if lacks_word text then Err fault.Missing else head_line (Reword (word text)) (behind text)
 
 unfoldable pub merge_line : List ℕ → Result Line TodoKind
 merge_line text =

@@ -52,11 +52,13 @@ pub record Leads (text rest : List ℕ) : Type 0 where
 
 -- without the blanks around
 pub record Trims (text kept : List ℕ) : Type 0 where
+  pub front : List ℕ
   pub back : List ℕ
-  pub blanks : AreBlanks back
+  pub before : AreBlanks front
+  pub behind : AreBlanks back
   pub begins : begins_blank kept ≡ false
   pub ends : ends_blank kept ≡ false
-  pub leads : Leads text (kept ++ back) ⊎ ((kept ≡ []) × AreBlanks text)
+  pub whole : text ≡ front ++ (kept ++ back)
 
 -- without the blanks around, and without the mark `# ` and the blanks around that
 pub record IsNote (text note : List ℕ) : Type 0 where

@@ -1,5 +1,5 @@
 -- Words of a line (git-rebase(1), "INTERACTIVE MODE"): they are separated by blanks, which are spaces and tabs.
-use Rattle.std.specs.Prelude.{ℕ, Bool, not, ◌||◌, ◌==◌, if◌then◌else◌, List, [], ◌∷◌, length, drop, codes}
+use Rattle.std.specs.Prelude.{ℕ, Bool, ◌||◌, ◌==◌, if◌then◌else◌, List, [], ◌∷◌, length, drop, codes}
 use Rattle.std.specs.List.{list_all, starts_with}
 use Rattle.std.specs.Str.{bytes_eq}
 
@@ -38,11 +38,15 @@ word text = up_to_blank (from_word text)
 unfoldable pub behind : List ℕ → List ℕ
 behind text = from_blank (from_word text)
 
-abbrev pub has_word : List ℕ → Bool
-has_word text = not (length (word text) == 0)
+abbrev pub lacks_word : List ℕ → Bool
+lacks_word text = length (word text) == 0
 
 abbrev pub is_hash : List ℕ → Bool
 is_hash w = bytes_eq w (codes "#")
+
+-- no word stands before `#`
+abbrev pub lacks_head : List ℕ → Bool
+lacks_head text = lacks_word text || is_hash (word text)
 
 -- without the mark `# `
 abbrev pub unmarked : List ℕ → List ℕ

@@ -2,7 +2,8 @@
 
 ghost use Rattle.std.specs.Prelude.{◌≡◌};
 ghost use Rattle.todo_text.specs.Gives.{Gives, WordGives};
-ghost use Rattle.todo_text.specs.ReadLine.{is_no_head, merge_note, head_line, keep_line, reword_line, merge_line};
+ghost use Rattle.todo_text.specs.Words.{lacks_head};
+ghost use Rattle.todo_text.specs.ReadLine.{merge_note, head_line, keep_line, reword_line, merge_line};
 
 use crate::fault::LineFault;
 use crate::line::{Line, MergeHow};
@@ -25,9 +26,10 @@ fn merge_note(text: &[u8]) -> Result<&[u8], LineFault>
     Err(LineFault::Bad(TodoKind::Octopus))
 }
 
-fn is_no_head(word: &[u8]) -> bool
-    ensures { result ≡ is_no_head word.now }
+fn lacks_head(text: &[u8]) -> bool
+    ensures { result ≡ lacks_head text.now }
 {
+    let (word, _) = first_word(text);
     word.is_empty() || is_hash(word)
 }
 
@@ -35,10 +37,10 @@ fn is_no_head(word: &[u8]) -> bool
 fn head_line(alloc: Global, how: MergeHow, text: &[u8]) -> Result<Line, LineFault>
     ensures { Gives result (head_line how text.now) }
 {
-    let (head, behind) = first_word(text);
-    if is_no_head(head) {
+    if lacks_head(text) {
         return Err(LineFault::Bad(TodoKind::Missing));
     }
+    let (head, behind) = first_word(text);
     let note = merge_note(behind)?;
     Ok(Line::Merge {
         how,

@@ -11,7 +11,7 @@ use crate::merges::merge_line;
 use crate::names::{is_label, is_updatable};
 use crate::notes::note_of;
 use crate::todo_kind::TodoKind;
-use crate::words::{bytes_of, first_word, from_word, has_word};
+use crate::words::{bytes_of, first_word, from_word, lacks_word};
 use std::alloc::Global;
 
 #[tactic(auto, unfolding(crate::specs::ReadLine::rev_line))]
@@ -47,7 +47,7 @@ fn fixup_line(alloc: Global, text: &[u8]) -> Result<Line, LineFault>
 fn exec_line(alloc: Global, text: &[u8]) -> Result<Line, LineFault>
     ensures { Gives result (exec_line text.now) }
 {
-    if !has_word(text) {
+    if lacks_word(text) {
         return Err(LineFault::Bad(TodoKind::Missing));
     }
     Ok(Line::Exec {
@@ -59,7 +59,7 @@ fn exec_line(alloc: Global, text: &[u8]) -> Result<Line, LineFault>
 fn lone_line(line: Line, text: &[u8]) -> Result<Line, LineFault>
     ensures { Gives result (lone_line line text.now) }
 {
-    if has_word(text) {
+    if !lacks_word(text) {
         return Err(LineFault::Bad(TodoKind::Extra));
     }
     Ok(line)
@@ -74,7 +74,7 @@ fn lone_word(text: &[u8]) -> Result<&[u8], LineFault>
     if word.is_empty() {
         return Err(LineFault::Bad(TodoKind::Missing));
     }
-    if has_word(behind) {
+    if !lacks_word(behind) {
         return Err(LineFault::Bad(TodoKind::Extra));
     }
     Ok(word)

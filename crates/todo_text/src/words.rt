@@ -1,7 +1,7 @@
 //! Words of a line, between blanks.
 
 ghost use Rattle.std.specs.Prelude.{◌≡◌, ◌≤◌, length, IfOk};
-ghost use Rattle.todo_text.specs.Words.{is_blank, from_word, to_word, from_blank, word, behind, has_word, is_hash, trimmed};
+ghost use Rattle.todo_text.specs.Words.{is_blank, from_word, to_word, from_blank, word, behind, lacks_word, is_hash, trimmed};
 
 use seq_base::Bytes;
 use std::alloc::{AllocError, Global};
@@ -85,9 +85,9 @@ pub fn is_hash(word: &[u8]) -> bool
     word == b"#".as_slice()
 }
 
-/// Whether a text is more than blanks.
-pub fn has_word(text: &[u8]) -> bool
-    ensures { result ≡ has_word text.now }
+/// Whether a text is blanks alone.
+pub fn lacks_word(text: &[u8]) -> bool
+    ensures { result ≡ lacks_word text.now }
 {
-    !first_word(text).0.is_empty()
+    first_word(text).0.is_empty()
 }
