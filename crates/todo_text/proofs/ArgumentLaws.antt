@@ -21,7 +21,7 @@ use Rattle.todo_text.proofs.WordLaws.{word_is, behind_is, has_word, begins_on, b
 use Rattle.todo_text.proofs.CommandLaws.{same, is_simple, is_simple_command, word_for, letter_for}
 
 -- a test was passed, since there is a value
-past : {X : Type 0} (v : Bool) (k : TodoKind) (r : Result X TodoKind) (x : X) → cond v (Err k) r ≡ Ok x → (v ≡ false) × (r ≡ Ok x)
+pub past : {X : Type 0} (v : Bool) (k : TodoKind) (r : Result X TodoKind) (x : X) → cond v (Err k) r ≡ Ok x → (v ≡ false) × (r ≡ Ok x)
 past true k r x h = let no_way : ⊥ = cc in absurd no_way
 past false k r x h = (refl, h)
 

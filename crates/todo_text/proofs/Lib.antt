@@ -7,3 +7,5 @@ pub mod CommandLaws
 pub mod ArgumentLaws
 pub mod FormLaws
 pub mod LineLaws
+pub mod KindLaws
+pub mod TodoLaws
