@@ -9,3 +9,4 @@ pub mod FormLaws
 pub mod LineLaws
 pub mod KindLaws
 pub mod TodoLaws
+pub mod TextLaws
