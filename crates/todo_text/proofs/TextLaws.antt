@@ -13,7 +13,7 @@ use Rattle.todo_text.specs.declared.line.Line.TheVariants.{Pick, Exec, Break, No
 use Rattle.todo_text.specs.declared.line.PickKind.{PickKind}
 use Rattle.todo_text.specs.declared.line.PickKind.TheVariants as kind
 use Rattle.todo_text.specs.Words.{unmarked}
-use Rattle.todo_text.specs.Spells.{AreBlanks, IsWord, begins_blank, ends_blank, Begins, BeginsAll, Leads, Trims, IsNote, IsMergeNote, command_word, arguments, Ends, HasNoFeed, Spells, pick_word, spaced, note_text, ending, text_of, ends_in_return, line_end, canonical}
+use Rattle.todo_text.specs.Spells.{AreBlanks, IsWord, begins_blank, ends_blank, Begins, BeginsAll, Leads, Trims, IsNote, IsMergeNote, command_word, arguments, Ends, HasNoFeed, Spells, IsSpelled, pick_word, spaced, note_text, ending, text_of, ends_in_return, line_end, canonical}
 use Rattle.todo_text.specs.Todos.{is_comment, counts, may_stand, SpellAll, todo_text}
 use Rattle.todo_text.proofs.LineLemmas.{is_feed, first_of_parts}
 use Rattle.todo_text.proofs.TodoLaws.{parts_feed, both_feed, drop_feed, match_true, match_false}
@@ -267,10 +267,10 @@ pub todo_respelled : (bytes : List ℕ) (earlier : Bool) (ls : List Line) → Sp
 todo_respelled bytes earlier ls h = respelled (lines bytes) earlier ls h
 
 -- what is written piece by piece
-pub written_alone : (l : Line) (front text whole : List ℕ) → ((spelled : List ℕ) × Spells l spelled) → front ≡ command_word l
+pub written_alone : (l : Line) (front text whole : List ℕ) → IsSpelled l → front ≡ command_word l
     → text ≡ front ++ (spaced (arguments l) ++ ending l) → whole ≡ text ++ line_end text → SpellAll true (lines whole) (l ∷ [])
 unfolding canonical text_of
 written_alone l front text whole h e f g =
     let P : List ℕ → Type 0 = λ t. SpellAll true (lines t) (l ∷ []) in
     let text_is : text ≡ text_of l = f ∙ ap (λ (t : List ℕ). t ++ (spaced (arguments l) ++ ending l)) e in
-    subst P (sym (g ∙ ap (λ (t : List ℕ). t ++ line_end t) text_is)) (line_alone l h.0 h.1)
+    subst P (sym (g ∙ ap (λ (t : List ℕ). t ++ line_end t) text_is)) (line_alone l h.text h.spells)

@@ -1,19 +1,20 @@
 -- What the bytes of a todo spell is what is read of them.
 use Rattle.std.proofs.Common.{◌≡◌, ℕ, ◌+◌, ◌-◌, Bool, true, false, cond, List, [], ◌∷◌, ◌++◌, length, get_or, take, drop, refl, sym, ap, ◌∙◌, subst, arith, ⊎_elim}
-use Rattle.std.specs.Prelude.{◌||◌, ◌&&◌, ◌==◌, not, MatchBool, Result, Ok, Err, Some}
+use Rattle.std.specs.Prelude.{◌||◌, ◌&&◌, ◌==◌, not, All, IfOk, MatchBool, Result, Ok, Err, Some}
 use Rattle.std.specs.List.{list_all, slice_split, onto_first}
-use Rattle.std.specs.Result.{result_err}
+use Rattle.std.specs.Result.{result_err, result_map_both}
 use Rattle.std.specs.Str.Lines.{lines, lines_of_parts, strip_carriage_return}
 use Rattle.std.proofs.lemmas.Bool.{cases_Bool, cond-true, cond-false, and_parts, and_from, not-false, true≢false, false≢true, MatchBool-at_true, MatchBool-at_false}
 use Rattle.std.proofs.lemmas.List.{take-append-drop}
 use Rattle.std.proofs.lemmas.List.Folds.{list_all-append}
+use Rattle.std.proofs.lemmas.List.Elements.{All-nil, All-cons}
 use Rattle.std.proofs.lemmas.List.Splits.{slice_split-cons_yes, slice_split-cons_no}
 use Rattle.todo_text.specs.declared.line.Line.{Line}
 use Rattle.todo_text.specs.declared.todo_kind.TodoKind.{TodoKind}
 use Rattle.todo_text.specs.declared.todo_kind.TodoKind.TheVariants as fault
 use Rattle.todo_text.specs.declared.fault.TodoFault.{TodoFault}
 use Rattle.todo_text.specs.declared.fault.TodoFault.TheVariants.{Bad, Memory}
-use Rattle.todo_text.specs.Spells.{HasNoFeed, Spells}
+use Rattle.todo_text.specs.Spells.{HasNoFeed, Spells, IsSpelled}
 use Rattle.todo_text.specs.Todos.{is_comment, counts, may_stand, SpellAll, earlier_of, IsFirstBad, IsTodoReading}
 use Rattle.todo_text.specs.ReadLine.{line_of}
 use Rattle.todo_text.specs.ReadTodo.{placed, line_in, led_by, todo_of, TodoGives}
@@ -229,3 +230,20 @@ todo_read earlier bytes (Err (Bad number kind)) h =
     (subst P same_number (subst Q same_kind f.first),
       λ others s. let e : ◌≡◌ {A = Result (List Line) TodoFault} (Ok others) (Err (Bad number kind)) = sym (complete (lines bytes) earlier 1 others s) ∙ h in let no_way : ⊥ = cc in no_way)
 todo_read earlier bytes (Err Memory) h = tt
+
+-- each line that is read is spelled by some text
+pub all_spelled : (texts : List (List ℕ)) (earlier : Bool) (ls : List Line) → SpellAll earlier texts ls → All IsSpelled ls
+all_spelled [] earlier ls h = let P : List Line → Type 0 = λ ls. All IsSpelled ls in subst P (sym h) (All-nil IsSpelled)
+all_spelled (text ∷ texts) earlier ls h =
+    ⊎_elim
+    (λ yes. all_spelled texts earlier ls (MatchBool-at_true _ _ yes h))
+    (λ never.
+    let s = MatchBool-at_false _ _ never h in
+    let P : List Line → Type 0 = λ ls. All IsSpelled ls in
+    subst P (sym s.2) (All-cons IsSpelled s.0 s.1 (record { text = text; spells = s.3 }) (all_spelled texts (earlier || counts s.0) s.1 s.5)))
+    (cases_Bool (is_comment text))
+
+pub read_spelled : {V : Type 0} (items : V → List Line) (bytes : List ℕ) (earlier : Bool) (r : Result V TodoFault)
+    → TodoGives (result_map_both items (λ e. e) r) (todo_of earlier 1 (lines bytes)) → IfOk r (λ v. All IsSpelled (items v))
+read_spelled items bytes earlier (Ok v) h = all_spelled (lines bytes) earlier (items v) (sound (lines bytes) earlier 1 (items v) (no_feeds bytes) h)
+read_spelled items bytes earlier (Err e) h = tt

@@ -200,6 +200,11 @@ pub record Spells (line : Line) (text : List ℕ) : Type 0 where
   pub ends : Ends line rest
   pub fit : is_fit line ≡ true
 
+-- some text spells it
+pub record IsSpelled (line : Line) : Type 0 where
+  pub text : List ℕ
+  pub spells : Spells line text
+
 -- ---- the one text that is written
 
 -- each word behind a space

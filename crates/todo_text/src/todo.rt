@@ -1,8 +1,9 @@
 //! A todo is read.
 
-ghost use Rattle.std.specs.Prelude.{◌≡◌, ◌||◌, ◌<◌, ◌∷◌, length, IfOk, MatchResult};
+ghost use Rattle.std.specs.Prelude.{◌≡◌, ◌||◌, ◌<◌, ◌∷◌, length, All, IfOk};
 ghost use Rattle.std.specs.Result.{result_map_both};
 ghost use Rattle.std.specs.Str.Lines.{lines, strip_carriage_return};
+ghost use Rattle.todo_text.specs.Spells.{IsSpelled};
 ghost use Rattle.todo_text.specs.Todos.{is_comment, counts, may_stand, is_drop, squashes, IsTodoReading};
 ghost use Rattle.todo_text.specs.Kinds.{is_squash};
 ghost use Rattle.todo_text.specs.ReadTodo.{line_in, LineGives, todo_of, TodoGives};
@@ -144,7 +145,9 @@ fn read_lines(alloc: Global, bytes: &[u8], earlier: bool) -> Result<Vec<Line>, T
 /// `refs/rewritten/`; the name to update is no ref below `refs/` or is a label's; two heads stand before `#`; `squash` or `fixup`
 /// stands where `earlier` is false and each line before it, if any, is `noop` or `drop`.
 pub fn parse_todo(alloc: Global, bytes: &[u8], earlier: bool) -> Result<Vec<Line>, TodoFault>
-    ensures { IsTodoReading earlier bytes.now (result_map_both (λ v. v.items) (λ e. e) result) }
+    ensures reads { IsTodoReading earlier bytes.now (result_map_both (λ v. v.items) (λ e. e) result) }
+    // It follows, and is what `line_text` asks for.
+    ensures spelled { IfOk result (λ v. All IsSpelled v.items) }
 {
     read_lines(alloc, bytes, earlier)
 }

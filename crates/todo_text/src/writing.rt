@@ -1,7 +1,7 @@
 //! A line is written.
 
-ghost use Rattle.std.specs.Prelude.{◌≡◌, ◌++◌, ◌∷◌, [], ℕ, List, true, IfOk, OnOk};
-ghost use Rattle.todo_text.specs.Spells.{Spells, pick_word, pick_option, merge_option, command_word, arguments, spaced, note_text, text_of, ending, ends_in_return, line_end, canonical};
+ghost use Rattle.std.specs.Prelude.{◌≡◌, ◌++◌, ◌∷◌, [], true, IfOk, OnOk};
+ghost use Rattle.todo_text.specs.Spells.{IsSpelled, pick_word, pick_option, merge_option, command_word, arguments, spaced, note_text, text_of, ending, ends_in_return, line_end, canonical};
 ghost use Rattle.todo_text.specs.Todos.{SpellsTodo};
 
 use crate::line::{Line, MergeHow, PickKind};
@@ -127,7 +127,7 @@ fn push_line_end(text: &mut Vec<u8>) -> Result<(), AllocError>
 /// the line is read.
 #[tactic(auto, unfolding(crate::specs::Spells::canonical, crate::specs::Spells::text_of))]
 pub fn line_text(alloc: Global, line: &Line) -> Result<Vec<u8>, AllocError>
-    requires { (text : List ℕ) × Spells line.now text }
+    requires { IsSpelled line.now }
     ensures canonical { IfOk result (λ text. text.items ≡ canonical line.now) }
     ensures spells { IfOk result (λ text. SpellsTodo true text.items (line.now ∷ [])) }
 {
