@@ -1,8 +1,8 @@
 -- What is read behind a command is what the text spells.
-use Rattle.std.proofs.Common.{◌≡◌, ◌⊎◌, ℕ, ◌<◌, Bool, true, false, cond, List, [], ◌∷◌, ◌++◌, length, refl, sym, ap, ◌∙◌, subst, arith, inl, inr, ⊎_elim}
-use Rattle.std.specs.Prelude.{◌&&◌, ◌||◌, ◌==◌, not, codes, Result, Ok, Err, Option, Some, None}
+use Rattle.std.proofs.Common.{◌≡◌, ℕ, Bool, true, false, cond, List, [], ◌∷◌, ◌++◌, length, refl, sym, ap, ◌∙◌, subst, arith, inl, inr, ⊎_elim}
+use Rattle.std.specs.Prelude.{◌&&◌, ◌||◌, ◌==◌, not, codes, Result, Ok, Err}
 use Rattle.std.specs.Str.{bytes_eq}
-use Rattle.std.proofs.lemmas.Bool.{cases_Bool, cond-true, cond-false, not-true, not-false, ne_eqb}
+use Rattle.std.proofs.lemmas.Bool.{cases_Bool, cond-true, cond-false, not-false, ne_eqb}
 use Rattle.todo_text.specs.declared.line.Line.{Line}
 use Rattle.todo_text.specs.declared.line.Line.TheVariants as line
 use Rattle.todo_text.specs.declared.line.PickKind.{PickKind}
@@ -13,11 +13,11 @@ use Rattle.todo_text.specs.declared.todo_kind.TodoKind.{TodoKind}
 use Rattle.todo_text.specs.declared.todo_kind.TodoKind.TheVariants as fault
 use Rattle.todo_text.specs.declared.command.Command.{Command}
 use Rattle.todo_text.specs.declared.command.Command.TheVariants.{Pick, Fixup, Exec, Break, Noop, Label, Reset, Merge, UpdateRef}
-use Rattle.todo_text.specs.Words.{from_word, trimmed, up_to_blank, word, behind, lacks_word, lacks_head, is_hash, note_of}
+use Rattle.todo_text.specs.Words.{from_word, up_to_blank, word, behind, lacks_word, lacks_head, is_hash, note_of}
 use Rattle.todo_text.specs.Names.{is_label, is_updatable}
-use Rattle.todo_text.specs.Spells.{AreBlanks, Begins, BeginsAll, Leads, Trims, IsNote, IsMergeNote, command_word, command_letter, arguments, Ends, is_fit, is_option, is_pick, is_head, pick_option, merge_option}
+use Rattle.todo_text.specs.Spells.{AreBlanks, Begins, BeginsAll, Trims, IsMergeNote, command_word, command_letter, arguments, Ends, is_fit, is_option, is_pick, pick_option}
 use Rattle.todo_text.specs.ReadLine.{◌>>=◌, rev_line, fixup_line, exec_line, lone_line, lone_word, label_line, update_line, reset_line, merge_note, head_line, keep_line, reword_line, merge_line, arguments_line}
-use Rattle.todo_text.proofs.WordLaws.{word_is, behind_is, has_word, begins_on, blanks_on, no_word, lacks, from_word-leads, leads_on, trimmed_is, trims_on, note_is, note_on}
+use Rattle.todo_text.proofs.WordLaws.{begins_on, blanks_on, no_word, leads_on, trims_on, note_on}
 use Rattle.todo_text.proofs.CommandLaws.{same, is_simple, is_simple_command, word_for, letter_for}
 
 -- a test was passed, since there is a value

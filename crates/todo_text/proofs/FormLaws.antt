@@ -1,5 +1,5 @@
 -- A text that spells a line is read as that line.
-use Rattle.std.proofs.Common.{◌≡◌, ◌⊎◌, ℕ, Bool, true, false, cond, List, [], ◌∷◌, ◌++◌, length, refl, sym, ap, ◌∙◌, subst, arith, ⊎_elim}
+use Rattle.std.proofs.Common.{◌≡◌, ℕ, Bool, true, false, cond, List, [], ◌∷◌, length, refl, sym, ap, ◌∙◌, subst, arith, ⊎_elim}
 use Rattle.std.specs.Prelude.{◌||◌, ◌&&◌, ◌==◌, not, codes, Result, Ok, Err}
 use Rattle.std.specs.Str.{bytes_eq}
 use Rattle.std.proofs.lemmas.Bool.{cond-true, cond-false, not-true, and_parts, ne_eqb}
@@ -11,9 +11,9 @@ use Rattle.todo_text.specs.declared.line.MergeHow.{MergeHow}
 use Rattle.todo_text.specs.declared.line.MergeHow.TheVariants.{Plain, Keep, Reword}
 use Rattle.todo_text.specs.declared.todo_kind.TodoKind.{TodoKind}
 use Rattle.todo_text.specs.declared.todo_kind.TodoKind.TheVariants as fault
-use Rattle.todo_text.specs.Words.{from_word, trimmed, up_to_blank, word, behind, lacks_word, lacks_head, is_hash, note_of}
+use Rattle.todo_text.specs.Words.{trimmed, up_to_blank, word, behind, lacks_word, lacks_head, is_hash, note_of}
 use Rattle.todo_text.specs.Names.{is_label, is_updatable}
-use Rattle.todo_text.specs.Spells.{AreBlanks, Begins, BeginsAll, Leads, Trims, IsNote, IsMergeNote, arguments, Ends, is_fit, is_option}
+use Rattle.todo_text.specs.Spells.{AreBlanks, Begins, BeginsAll, Leads, IsNote, IsMergeNote, arguments, Ends, is_fit, is_option}
 use Rattle.todo_text.specs.ReadLine.{◌>>=◌, rev_line, fixup_line, exec_line, lone_line, lone_word, label_line, update_line, reset_line, merge_note, head_line, keep_line, reword_line, merge_line, arguments_line}
 use Rattle.todo_text.proofs.WordLaws.{word_is, behind_is, has_word, no_word, lacks, from_word-leads, trimmed_is, note_is}
 use Rattle.todo_text.proofs.CommandLaws.{command_for}

@@ -16,7 +16,6 @@ use Rattle.todo_text.specs.declared.command.Command.TheVariants.{Pick, Fixup, Ex
 use Rattle.todo_text.specs.Words.{from_word, trimmed, word, behind, lacks_word, lacks_head, is_hash, note_of}
 use Rattle.todo_text.specs.Names.{is_label, is_updatable}
 use Rattle.todo_text.specs.Commands.{command_of}
-use Rattle.todo_text.specs.Spells.{is_option}
 use Rattle.todo_text.specs.Kinds.{has_second_head, is_missing, is_extra, is_bad_label, is_bad_ref, is_octopus, is_squash, wants_earlier, if_command, first_kind}
 use Rattle.todo_text.specs.Todos.{squashes}
 use Rattle.todo_text.specs.ReadLine.{◌>>=◌, rev_line, fixup_line, exec_line, lone_line, lone_word, label_line, update_line, reset_line, merge_note, head_line, keep_line, reword_line, merge_line, arguments_line, with_command, line_of}
@@ -29,9 +28,10 @@ module _ (earlier : Bool) where
 
   late : (v : Bool) (l : Line) → cond (v && not earlier) (Some fault.NoEarlier) None ≡ result_err (cond (not (earlier || not v)) (Err fault.NoEarlier) (Ok l))
   late v l =
-      elim v as (λ v. cond (v && not earlier) (Some fault.NoEarlier) None ≡ result_err (cond (not (earlier || not v)) (Err fault.NoEarlier) (Ok l)))
-      [ true ↦ elim earlier as (λ e. cond (true && not e) (Some fault.NoEarlier) None ≡ result_err (cond (not (e || not true)) (Err fault.NoEarlier) (Ok l))) [ true ↦ refl | false ↦ refl ]
-      | false ↦ elim earlier as (λ e. cond (false && not e) (Some fault.NoEarlier) None ≡ result_err (cond (not (e || not false)) (Err fault.NoEarlier) (Ok l))) [ true ↦ refl | false ↦ refl ] ]
+      elim v as (λ v. cond (v && not earlier) (Some fault.NoEarlier) None ≡ result_err (cond (not (earlier || not v)) (Err fault.NoEarlier) (Ok l))) [
+        | true ↦ elim earlier as (λ e. cond (true && not e) (Some fault.NoEarlier) None ≡ result_err (cond (not (e || not true)) (Err fault.NoEarlier) (Ok l))) [ true ↦ refl | false ↦ refl ]
+        | false ↦ elim earlier as (λ e. cond (false && not e) (Some fault.NoEarlier) None ≡ result_err (cond (not (e || not false)) (Err fault.NoEarlier) (Ok l))) [ true ↦ refl | false ↦ refl ]
+      ]
 
   last_kind : (l : Line) (v : Bool) → squashes l ≡ v → cond (v && not earlier) (Some fault.NoEarlier) None ≡ result_err (placed earlier (Ok l))
   last_kind l v e = late v l ∙ ap (λ (w : Bool). result_err (cond (not (earlier || not w)) (Err fault.NoEarlier) (Ok l))) (sym e)
@@ -58,13 +58,14 @@ module _ (earlier : Bool) where
   fixup_kind text =
       elim (bytes_eq (word text) (codes "-C"))
       as (λ v. cond (cond (v || bytes_eq (word text) (codes "-c")) (lacks_word (behind text)) (lacks_word text)) (Some fault.Missing) (cond (true && not earlier) (Some fault.NoEarlier) None)
-      ≡ result_err (placed earlier (cond v (rev_line kind.FixupKeep (behind text)) (cond (bytes_eq (word text) (codes "-c")) (rev_line kind.FixupEdit (behind text)) (rev_line kind.Fixup text)))))
-      [ true ↦ rev_kind kind.FixupKeep (behind text)
-      | false ↦
-        elim (bytes_eq (word text) (codes "-c"))
-        as (λ w. cond (cond (false || w) (lacks_word (behind text)) (lacks_word text)) (Some fault.Missing) (cond (true && not earlier) (Some fault.NoEarlier) None)
-        ≡ result_err (placed earlier (cond w (rev_line kind.FixupEdit (behind text)) (rev_line kind.Fixup text))))
-        [ true ↦ rev_kind kind.FixupEdit (behind text) | false ↦ rev_kind kind.Fixup text ] ]
+      ≡ result_err (placed earlier (cond v (rev_line kind.FixupKeep (behind text)) (cond (bytes_eq (word text) (codes "-c")) (rev_line kind.FixupEdit (behind text)) (rev_line kind.Fixup text))))) [
+        | true ↦ rev_kind kind.FixupKeep (behind text)
+        | false ↦
+            elim (bytes_eq (word text) (codes "-c"))
+            as (λ w. cond (cond (false || w) (lacks_word (behind text)) (lacks_word text)) (Some fault.Missing) (cond (true && not earlier) (Some fault.NoEarlier) None)
+            ≡ result_err (placed earlier (cond w (rev_line kind.FixupEdit (behind text)) (rev_line kind.Fixup text))))
+            [ true ↦ rev_kind kind.FixupEdit (behind text) | false ↦ rev_kind kind.Fixup text ]
+      ]
 
   exec_kind : (text : List ℕ) → cond (lacks_word text) (Some fault.Missing) None ≡ result_err (placed earlier (exec_line text))
   unfolding exec_line
@@ -109,12 +110,13 @@ module _ (earlier : Bool) where
   note_kind how head text =
       elim (lacks_word text)
       as (λ v. cond (not v && not (is_hash (word text))) (Some fault.Octopus) None
-      ≡ result_err (placed earlier (cond v (Ok (word text)) (cond (is_hash (word text)) (Ok (trimmed (behind text))) (Err fault.Octopus)) >>= λ note. Ok (line.Merge how head note))))
-      [ true ↦ good_kind (line.Merge how head (word text)) refl
-      | false ↦
-        elim (is_hash (word text))
-        as (λ v. cond (true && not v) (Some fault.Octopus) None ≡ result_err (placed earlier (cond v (Ok (trimmed (behind text))) (Err fault.Octopus) >>= λ note. Ok (line.Merge how head note))))
-        [ true ↦ good_kind (line.Merge how head (trimmed (behind text))) refl | false ↦ refl ] ]
+      ≡ result_err (placed earlier (cond v (Ok (word text)) (cond (is_hash (word text)) (Ok (trimmed (behind text))) (Err fault.Octopus)) >>= λ note. Ok (line.Merge how head note)))) [
+        | true ↦ good_kind (line.Merge how head (word text)) refl
+        | false ↦
+            elim (is_hash (word text))
+            as (λ v. cond (true && not v) (Some fault.Octopus) None ≡ result_err (placed earlier (cond v (Ok (trimmed (behind text))) (Err fault.Octopus) >>= λ note. Ok (line.Merge how head note))))
+            [ true ↦ good_kind (line.Merge how head (trimmed (behind text))) refl | false ↦ refl ]
+      ]
 
   head_kind : (how : MergeHow) (text : List ℕ)
       → cond (lacks_head text) (Some fault.Missing) (cond (has_second_head text) (Some fault.Octopus) None) ≡ result_err (placed earlier (head_line how text))
@@ -140,14 +142,15 @@ module _ (earlier : Bool) where
       elim (bytes_eq (word text) (codes "-C"))
       as (λ v. cond (cond (v || bytes_eq (word text) (codes "-c")) (lacks_word (behind text) || lacks_head (behind (behind text))) (lacks_head text)) (Some fault.Missing)
       (cond (cond (v || bytes_eq (word text) (codes "-c")) (has_second_head (behind (behind text))) (has_second_head text)) (Some fault.Octopus) None)
-      ≡ result_err (placed earlier (cond v (keep_line (behind text)) (cond (bytes_eq (word text) (codes "-c")) (reword_line (behind text)) (head_line Plain text)))))
-      [ true ↦ keep_kind (behind text)
-      | false ↦
-        elim (bytes_eq (word text) (codes "-c"))
-        as (λ w. cond (cond (false || w) (lacks_word (behind text) || lacks_head (behind (behind text))) (lacks_head text)) (Some fault.Missing)
-        (cond (cond (false || w) (has_second_head (behind (behind text))) (has_second_head text)) (Some fault.Octopus) None)
-        ≡ result_err (placed earlier (cond w (reword_line (behind text)) (head_line Plain text))))
-        [ true ↦ reword_kind (behind text) | false ↦ head_kind Plain text ] ]
+      ≡ result_err (placed earlier (cond v (keep_line (behind text)) (cond (bytes_eq (word text) (codes "-c")) (reword_line (behind text)) (head_line Plain text))))) [
+        | true ↦ keep_kind (behind text)
+        | false ↦
+            elim (bytes_eq (word text) (codes "-c"))
+            as (λ w. cond (cond (false || w) (lacks_word (behind text) || lacks_head (behind (behind text))) (lacks_head text)) (Some fault.Missing)
+            (cond (cond (false || w) (has_second_head (behind (behind text))) (has_second_head text)) (Some fault.Octopus) None)
+            ≡ result_err (placed earlier (cond w (reword_line (behind text)) (head_line Plain text))))
+            [ true ↦ reword_kind (behind text) | false ↦ head_kind Plain text ]
+      ]
 
   abbrev chain : Option Command → List ℕ → Option TodoKind
   chain o text =

@@ -1,5 +1,5 @@
 -- The name of a label makes the name of a ref.
-use Rattle.std.proofs.Common.{◌≡◌, ℕ, Bool, true, false, List, ◌++◌, refl, sym, ap, ◌∙◌}
+use Rattle.std.proofs.Common.{◌≡◌, ℕ, Bool, false, List, ◌++◌, sym, ap, ◌∙◌}
 use Rattle.std.specs.Prelude.{◌&&◌, not, codes}
 use Rattle.seq_base.specs.RefNames.{is_ref_name}
 use Rattle.todo_text.specs.Names.{is_label}

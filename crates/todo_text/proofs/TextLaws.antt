@@ -1,9 +1,9 @@
 -- The text that is written of a line spells that line.
-use Rattle.std.proofs.Common.{◌≡◌, ◌⊎◌, ℕ, ◌+◌, ◌-◌, Bool, true, false, cond, List, [], ◌∷◌, ◌++◌, length, get_or, take, drop, refl, sym, ap, ◌∙◌, subst, arith, append_assoc, length-append, inl, inr, ⊎_elim}
-use Rattle.std.specs.Prelude.{◌||◌, ◌&&◌, ◌==◌, not, codes, All}
-use Rattle.std.specs.List.{list_all, flat_map, slice_split, starts_with}
+use Rattle.std.proofs.Common.{◌≡◌, ◌⊎◌, ℕ, ◌-◌, Bool, true, false, List, [], ◌∷◌, ◌++◌, length, get_or, take, drop, refl, sym, ap, ◌∙◌, subst, arith, append_assoc, length-append, inl, inr, ⊎_elim}
+use Rattle.std.specs.Prelude.{◌||◌, ◌==◌, not, codes, All}
+use Rattle.std.specs.List.{slice_split, starts_with}
 use Rattle.std.specs.Str.Lines.{lines, lines_of_parts, strip_carriage_return}
-use Rattle.std.proofs.lemmas.Bool.{cases_Bool, cond-true, cond-false, and_parts, and_from, not-true, MatchBool-at_true, MatchBool-at_false}
+use Rattle.std.proofs.lemmas.Bool.{cases_Bool, cond-true, cond-false, and_parts, not-true, MatchBool-at_true, MatchBool-at_false}
 use Rattle.std.proofs.lemmas.List.{append-nil}
 use Rattle.std.proofs.lemmas.List.Elements.{All-nil, All-cons}
 use Rattle.std.proofs.lemmas.List.Splits.{slice_split_at, length-slice_split}
@@ -13,10 +13,10 @@ use Rattle.todo_text.specs.declared.line.Line.TheVariants.{Pick, Exec, Break, No
 use Rattle.todo_text.specs.declared.line.PickKind.{PickKind}
 use Rattle.todo_text.specs.declared.line.PickKind.TheVariants as kind
 use Rattle.todo_text.specs.Words.{unmarked}
-use Rattle.todo_text.specs.Spells.{AreBlanks, IsWord, begins_blank, ends_blank, Begins, BeginsAll, Leads, Trims, IsNote, IsMergeNote, command_word, arguments, Ends, HasNoFeed, Spells, IsSpelled, pick_word, spaced, note_text, ending, text_of, ends_in_return, line_end, canonical}
+use Rattle.todo_text.specs.Spells.{IsWord, begins_blank, ends_blank, BeginsAll, Leads, Trims, IsNote, IsMergeNote, command_word, arguments, Ends, HasNoFeed, Spells, IsSpelled, pick_word, spaced, note_text, ending, text_of, ends_in_return, line_end, canonical}
 use Rattle.todo_text.specs.Todos.{is_comment, counts, may_stand, SpellAll, todo_text}
 use Rattle.todo_text.proofs.LineLemmas.{is_feed, first_of_parts}
-use Rattle.todo_text.proofs.TodoLaws.{parts_feed, both_feed, drop_feed, match_true, match_false}
+use Rattle.todo_text.proofs.TodoLaws.{parts_feed, both_feed, drop_feed, match_false}
 
 -- ---- the parts of a text
 
@@ -86,8 +86,11 @@ note_written (b ∷ bs) k =
 merge_written : (note : List ℕ) → Kept note → IsMergeNote (note_text note) note
 merge_written [] k = inl (refl, refl)
 merge_written (b ∷ bs) k =
-    inr (32 ∷ b ∷ bs, record { front = 32 ∷ []; blanks = refl; is_word = (refl, refl); apart = inr refl; whole = refl },
-      record { front = 32 ∷ []; back = []; before = refl; behind = refl; begins = k.begins; ends = k.ends; whole = ap (λ (t : List ℕ). 32 ∷ t) (sym (append-nil (b ∷ bs))) })
+    inr (
+      32 ∷ b ∷ bs,
+      record { front = 32 ∷ []; blanks = refl; is_word = (refl, refl); apart = inr refl; whole = refl },
+      record { front = 32 ∷ []; back = []; before = refl; behind = refl; begins = k.begins; ends = k.ends; whole = ap (λ (t : List ℕ). 32 ∷ t) (sym (append-nil (b ∷ bs))) },
+    )
 
 note_feed : (note : List ℕ) → Kept note → HasNoFeed (note_text note)
 note_feed [] k = refl
@@ -134,10 +137,11 @@ words_apart (w ∷ ws) end h = inr refl
 
 words_written : (ws : List (List ℕ)) (end : List ℕ) → AreGood ws → Apart end → BeginsAll (spaced ws ++ end) ws end
 words_written [] end good apart = refl
-words_written (w ∷ ws) end good apart =
-    (spaced ws ++ end,
-      record { front = 32 ∷ []; blanks = refl; is_word = good.0; apart = words_apart ws end apart; whole = ap (λ (t : List ℕ). 32 ∷ t) (append_assoc w (spaced ws) end) },
-      words_written ws end good.2 apart)
+words_written (w ∷ ws) end good apart = (
+  spaced ws ++ end,
+  record { front = 32 ∷ []; blanks = refl; is_word = good.0; apart = words_apart ws end apart; whole = ap (λ (t : List ℕ). 32 ∷ t) (append_assoc w (spaced ws) end) },
+  words_written ws end good.2 apart,
+)
 
 words_feed : (ws : List (List ℕ)) → AreGood ws → HasNoFeed (spaced ws)
 words_feed [] good = refl

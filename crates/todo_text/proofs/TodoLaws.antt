@@ -1,6 +1,6 @@
 -- What the bytes of a todo spell is what is read of them.
 use Rattle.std.proofs.Common.{◌≡◌, ℕ, ◌+◌, ◌-◌, Bool, true, false, cond, List, [], ◌∷◌, ◌++◌, length, get_or, take, drop, refl, sym, ap, ◌∙◌, subst, arith, ⊎_elim}
-use Rattle.std.specs.Prelude.{◌||◌, ◌&&◌, ◌==◌, not, All, IfOk, MatchBool, Result, Ok, Err, Some}
+use Rattle.std.specs.Prelude.{◌||◌, ◌==◌, not, All, IfOk, MatchBool, Result, Ok, Err}
 use Rattle.std.specs.List.{list_all, slice_split, onto_first}
 use Rattle.std.specs.Result.{result_err, result_map_both}
 use Rattle.std.specs.Str.Lines.{lines, lines_of_parts, strip_carriage_return}
@@ -15,7 +15,7 @@ use Rattle.todo_text.specs.declared.todo_kind.TodoKind.TheVariants as fault
 use Rattle.todo_text.specs.declared.fault.TodoFault.{TodoFault}
 use Rattle.todo_text.specs.declared.fault.TodoFault.TheVariants.{Bad, Memory}
 use Rattle.todo_text.specs.Spells.{HasNoFeed, Spells, IsSpelled}
-use Rattle.todo_text.specs.Todos.{is_comment, counts, may_stand, SpellAll, earlier_of, IsFirstBad, IsTodoReading}
+use Rattle.todo_text.specs.Todos.{is_comment, counts, may_stand, SpellAll, IsFirstBad, IsTodoReading}
 use Rattle.todo_text.specs.ReadLine.{line_of}
 use Rattle.todo_text.specs.ReadTodo.{placed, line_in, led_by, todo_of, TodoGives}
 use Rattle.todo_text.proofs.ArgumentLaws.{past, ok_same}
@@ -124,12 +124,13 @@ sound (text ∷ texts) earlier n ls feeds h =
     (λ yes. match_true _ _ _ yes (sound texts earlier (n + 1) ls feeds.1 (sym (todo_comment earlier n text texts yes) ∙ h)))
     (λ never.
     match_false _ _ _ never
-    (elim (line_in earlier text) as (λ r. line_in earlier text ≡ r → (line : Line) × (later : List Line) × (ls ≡ line ∷ later) × Spells line text × (may_stand earlier line ≡ true) × SpellAll (earlier || counts line) texts later)
-    [ Ok l ↦ λ e.
-      let p = in_place earlier text l e in
-      let led = led_ok l (todo_of (earlier || counts l) (n + 1) texts) ls (sym (todo_line earlier n text texts l never e) ∙ h) in
-      (l, led.later, led.is_all, line_sound text l feeds.0 p.0, p.1, sound texts (earlier || counts l) (n + 1) led.later feeds.1 led.is_ok)
-    | Err k ↦ λ e. let bad : ◌≡◌ {A = Result (List Line) TodoFault} (Err (Bad n k)) (Ok ls) = sym (todo_bad earlier n text texts k never e) ∙ h in let no_way : ⊥ = cc in absurd no_way ] refl))
+    (elim (line_in earlier text) as (λ r. line_in earlier text ≡ r → (line : Line) × (later : List Line) × (ls ≡ line ∷ later) × Spells line text × (may_stand earlier line ≡ true) × SpellAll (earlier || counts line) texts later) [
+      | Ok l ↦ λ e.
+          let p = in_place earlier text l e in
+          let led = led_ok l (todo_of (earlier || counts l) (n + 1) texts) ls (sym (todo_line earlier n text texts l never e) ∙ h) in
+          (l, led.later, led.is_all, line_sound text l feeds.0 p.0, p.1, sound texts (earlier || counts l) (n + 1) led.later feeds.1 led.is_ok)
+      | Err k ↦ λ e. let bad : ◌≡◌ {A = Result (List Line) TodoFault} (Err (Bad n k)) (Ok ls) = sym (todo_bad earlier n text texts k never e) ∙ h in let no_way : ⊥ = cc in absurd no_way
+    ] refl))
     (cases_Bool (is_comment text))
 
 complete : (texts : List (List ℕ)) (earlier : Bool) (n : ℕ) (ls : List Line) → SpellAll earlier texts ls → todo_of earlier n texts ≡ Ok ls
@@ -175,60 +176,63 @@ fails (text ∷ texts) earlier n e feeds h =
       };
     })
     (λ never.
-    elim (line_in earlier text) as (λ r. line_in earlier text ≡ r → Fails earlier n (text ∷ texts) e)
-    [ Ok l ↦ λ is.
-      let p = in_place earlier text l is in
-      let f = fails texts (earlier || counts l) (n + 1) e feeds.1 (led_err l (todo_of (earlier || counts l) (n + 1) texts) e (sym (todo_line earlier n text texts l never is) ∙ h)) in
-      let b = f.first in
-      record {
-        number = f.number;
-        kind = f.kind;
-        is_bad = f.is_bad;
-        first = record {
-          good = text ∷ b.good;
-          bad = b.bad;
-          after = b.after;
-          split = ap (λ (ts : List (List ℕ)). text ∷ ts) b.split;
-          before = l ∷ b.before;
-          spelled = match_false _ _ _ never (l, b.before, refl, line_sound text l feeds.0 p.0, p.1, b.spelled);
-          number_is = b.number_is ∙ omega arith;
-          no_comment = b.no_comment;
-          kind_is = b.kind_is;
-        };
-      }
-    | Err k ↦ λ is.
-      let bad : ◌≡◌ {A = Result (List Line) TodoFault} (Err (Bad n k)) (Err e) = sym (todo_bad earlier n text texts k never is) ∙ h in
-      record {
-        number = n;
-        kind = k;
-        is_bad = cc;
-        first = record {
-          good = [];
-          bad = text;
-          after = texts;
-          split = refl;
-          before = [];
-          spelled = refl;
-          number_is = omega arith;
-          no_comment = never;
-          kind_is = first_kind_is earlier text ∙ ap result_err is;
-        };
-      } ] refl)
+    elim (line_in earlier text) as (λ r. line_in earlier text ≡ r → Fails earlier n (text ∷ texts) e) [
+      | Ok l ↦ λ is.
+          let p = in_place earlier text l is in
+          let f = fails texts (earlier || counts l) (n + 1) e feeds.1 (led_err l (todo_of (earlier || counts l) (n + 1) texts) e (sym (todo_line earlier n text texts l never is) ∙ h)) in
+          let b = f.first in
+          record {
+            number = f.number;
+            kind = f.kind;
+            is_bad = f.is_bad;
+            first = record {
+              good = text ∷ b.good;
+              bad = b.bad;
+              after = b.after;
+              split = ap (λ (ts : List (List ℕ)). text ∷ ts) b.split;
+              before = l ∷ b.before;
+              spelled = match_false _ _ _ never (l, b.before, refl, line_sound text l feeds.0 p.0, p.1, b.spelled);
+              number_is = b.number_is ∙ omega arith;
+              no_comment = b.no_comment;
+              kind_is = b.kind_is;
+            };
+          }
+      | Err k ↦ λ is.
+          let bad : ◌≡◌ {A = Result (List Line) TodoFault} (Err (Bad n k)) (Err e) = sym (todo_bad earlier n text texts k never is) ∙ h in
+          record {
+            number = n;
+            kind = k;
+            is_bad = cc;
+            first = record {
+              good = [];
+              bad = text;
+              after = texts;
+              split = refl;
+              before = [];
+              spelled = refl;
+              number_is = omega arith;
+              no_comment = never;
+              kind_is = first_kind_is earlier text ∙ ap result_err is;
+            };
+          }
+    ] refl)
     (cases_Bool (is_comment text))
 
 -- what the reader gives is what is spelled
 pub todo_read : (earlier : Bool) (bytes : List ℕ) (r : Result (List Line) TodoFault) → TodoGives r (todo_of earlier 1 (lines bytes)) → IsTodoReading earlier bytes r
-todo_read earlier bytes (Ok ls) h =
-    (sound (lines bytes) earlier 1 ls (no_feeds bytes) h,
-      λ others s. let e : ◌≡◌ {A = Result (List Line) TodoFault} (Ok others) (Ok ls) = sym (complete (lines bytes) earlier 1 others s) ∙ h in cc)
+todo_read earlier bytes (Ok ls) h = (
+  sound (lines bytes) earlier 1 ls (no_feeds bytes) h,
+  λ others s. let e : ◌≡◌ {A = Result (List Line) TodoFault} (Ok others) (Ok ls) = sym (complete (lines bytes) earlier 1 others s) ∙ h in cc,
+)
 todo_read earlier bytes (Err (Bad number kind)) h =
     let f = fails (lines bytes) earlier 1 (Bad number kind) (no_feeds bytes) h in
     let same_number : f.number ≡ number = let e = f.is_bad in cc in
     let same_kind : f.kind ≡ kind = let e = f.is_bad in cc in
     let P : ℕ → Type 0 = λ m. IsFirstBad earlier 1 (lines bytes) m kind in
-    let Q : TodoKind → Type 0 = λ k. IsFirstBad earlier 1 (lines bytes) f.number k in
-    (subst P same_number (subst Q same_kind f.first),
-      λ others s. let e : ◌≡◌ {A = Result (List Line) TodoFault} (Ok others) (Err (Bad number kind)) = sym (complete (lines bytes) earlier 1 others s) ∙ h in let no_way : ⊥ = cc in no_way)
+    let Q : TodoKind → Type 0 = λ k. IsFirstBad earlier 1 (lines bytes) f.number k in (
+      subst P same_number (subst Q same_kind f.first),
+      λ others s. let e : ◌≡◌ {A = Result (List Line) TodoFault} (Ok others) (Err (Bad number kind)) = sym (complete (lines bytes) earlier 1 others s) ∙ h in let no_way : ⊥ = cc in no_way,
+    )
 todo_read earlier bytes (Err Memory) h = tt
 
 -- each line that is read is spelled by some text

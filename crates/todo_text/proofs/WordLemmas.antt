@@ -1,11 +1,10 @@
 -- What the words of a text are made of.
-use Rattle.std.proofs.Common.{◌≡◌, ℕ, ◌+◌, ◌-◌, ◌<◌, ◌≤◌, Bool, true, false, cond, List, [], ◌∷◌, ◌++◌, length, get_or, take, drop, refl, sym, ap, ◌∙◌, arith, append_assoc, length-append, take_all}
+use Rattle.std.proofs.Common.{◌≡◌, ℕ, ◌+◌, ◌-◌, ◌<◌, Bool, true, false, cond, List, [], ◌∷◌, ◌++◌, length, get_or, take, refl, sym, ap, ◌∙◌, arith, length-append, take_all}
 use Rattle.std.specs.Prelude.{◌&&◌}
 use Rattle.std.specs.List.{list_all}
-use Rattle.std.proofs.lemmas.Bool.{cases_Bool, cond-true, cond-false}
 use Rattle.std.proofs.lemmas.List.{take_more}
 use Rattle.std.proofs.Math.Seq.{take-append_seam}
-use Rattle.todo_text.specs.Words.{is_blank, from_word, to_word, up_to_blank, from_blank}
+use Rattle.todo_text.specs.Words.{is_blank, to_word, up_to_blank, from_blank}
 
 -- the word and what stands behind it are all
 pub word_then_blank : (text : List ℕ) → up_to_blank text ++ from_blank text ≡ text

@@ -1,5 +1,5 @@
 -- A todo is read line by line.
-use Rattle.std.specs.Prelude.{◌≡◌, ℕ, ◌+◌, Bool, not, ◌||◌, ◌++◌, if◌then◌else◌, List, [], ◌∷◌, Result, Ok, Err, Option, Some, None}
+use Rattle.std.specs.Prelude.{◌≡◌, ℕ, ◌+◌, Bool, not, ◌||◌, ◌++◌, if◌then◌else◌, List, [], ◌∷◌, Result, Ok, Err}
 use Rattle.todo_text.specs.declared.line.Line.{Line}
 use Rattle.todo_text.specs.declared.todo_kind.TodoKind.{TodoKind}
 use Rattle.todo_text.specs.declared.todo_kind.TodoKind.TheVariants as fault

@@ -9,12 +9,12 @@ mod merges;
 mod names;
 mod notes;
 mod reading;
+#[cfg(test)]
+mod tests;
 mod todo;
 mod todo_kind;
 mod words;
 mod writing;
-#[cfg(test)]
-mod tests;
 
 pub use fault::TodoFault;
 pub use laws::{lines_differ_in_every_text, todo_reads_back};

@@ -256,7 +256,9 @@ fn merges_are_read(rt: HostRuntime) -> Result<(), Fail> {
 fn many_lines_are_read(rt: HostRuntime) -> Result<(), Fail> {
     let mut text = Vec::new(rt.alloc());
     for _ in 0..100_000 {
-        text.extend_from_slice(b"pick 0123456789012345678901234567890123456789 # a subject of a commit\n")?;
+        text.extend_from_slice(
+            b"pick 0123456789012345678901234567890123456789 # a subject of a commit\n",
+        )?;
     }
     let lines = parse_todo(rt.alloc(), text.as_slice(), false)?;
     assert!(rt; lines.len() == 100_000);
