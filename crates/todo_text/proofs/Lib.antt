@@ -1,0 +1,12 @@
+pub mod WordLemmas
+pub mod NameLemmas
+pub mod LineLemmas
+pub mod TodoLemmas
+pub mod WordLaws
+pub mod CommandLaws
+pub mod ArgumentLaws
+pub mod FormLaws
+pub mod LineLaws
+pub mod KindLaws
+pub mod TodoLaws
+pub mod TextLaws

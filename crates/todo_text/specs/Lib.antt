@@ -1,0 +1,9 @@
+pub mod Words
+pub mod Names
+pub mod Commands
+pub mod Spells
+pub mod Kinds
+pub mod Todos
+pub mod ReadLine
+pub mod ReadTodo
+pub mod Gives
