@@ -53,6 +53,13 @@ object_in id text = option_and_then (λ o. if nat_le (length o.bytes) content_li
 unfoldable pub object_at : World → List ℕ → Option Object
 object_at w id = option_and_then (object_in id) (map.get w (object_path id))
 
+-- how large the content of an id's object is, where that passes the limit
+abbrev pub oversize : ℕ → Option ℕ
+oversize size = if nat_le size content_limit then None else Some size
+
+unfoldable pub oversize_at : World → List ℕ → Option ℕ
+oversize_at w id = option_and_then (λ text. option_and_then (λ o. oversize (length o.bytes)) (object_of text)) (map.get w (object_path id))
+
 -- what a world is after objects were put, and the id of the first in whose file another text stood, at which it ended
 pub record Put : Type 0 where
   pub world : World
