@@ -6,21 +6,23 @@ use Rattle.seq_model.specs.Report.{report_of}
 use Rattle.seq_model.specs.Words.{words_read}
 use Rattle.seq_model.specs.declared.outcome.Outcome.{Outcome}
 use Rattle.seq_model.specs.declared.outcome.Outcome.TheVariants.{Done, Stopped, Usage, Refused, StoreFault, ChildFault, OutputFault, Limit, Memory}
-use Rattle.seq_model.specs.declared.refusal.Refusal.{Refusal}
+use Rattle.seq_model.specs.declared.denial.Denial.{Denial}
+use Rattle.seq_model.specs.declared.denial.Denial.TheVariants as denied
 use Rattle.seq_model.specs.declared.usage.UsageFault.{UsageFault}
 use Rattle.seq_outside.specs.Causes.{Rose}
 
-abbrev pub ended : Result (List ℕ) Refusal → Outcome
+abbrev pub ended : Result (List ℕ) Denial → Outcome
 ended (Ok head) = Done (Some head)
-ended (Err refusal) = Refused refusal
+ended (Err (denied.Refused refusal)) = Refused refusal
+ended (Err (denied.Limit what number)) = Limit what number
 
-abbrev pub answer_to : Result (List ℕ) UsageFault → World → Outcome
-answer_to (Ok word) w = ended (picked w word)
-answer_to (Err fault) w = Usage fault
+abbrev pub answer_to : Result (List ℕ) UsageFault → List (List ℕ × List ℕ) → World → Outcome
+answer_to (Ok word) vars w = ended (picked vars w word)
+answer_to (Err fault) vars w = Usage fault
 
 -- the answer, where nothing fails and memory is ample
-abbrev pub answer_of : List (List ℕ) → World → Outcome
-answer_of words w = answer_to (words_read words) w
+abbrev pub answer_of : List (List ℕ) → List (List ℕ × List ℕ) → World → Outcome
+answer_of words vars w = answer_to (words_read words) vars w
 
 abbrev pub IsRead : Result (List ℕ) UsageFault → Type 0
 IsRead (Ok word) = Unit {0}
@@ -93,10 +95,10 @@ HasCause Memory store store' sink sink' = Unit {0}
 
 -- An outcome of an invocation. `told` and `sink_told` hold of a store and of a sink that tell what they hold; `store` and `sink`
 -- count their faults, before and after.
-pub record Answers (told sink_told : Type 0) (words : List (List ℕ)) (w : World) (store store' sink sink' : ℕ) (printed printed' : List ℕ) (outcome : Outcome) : Type 0 where
+pub record Answers (told sink_told : Type 0) (words : List (List ℕ)) (vars : List (List ℕ × List ℕ)) (w : World) (store store' sink sink' : ℕ) (printed printed' : List ℕ) (outcome : Outcome) : Type 0 where
   pub judged : Outcome
   pub fits_words : FitsWords judged (words_read words)
-  pub fits_world : told → FitsWorld judged (answer_of words w)
+  pub fits_world : told → FitsWorld judged (answer_of words vars w)
   pub fits_judged : FitsJudged outcome judged
   pub prints : sink_told → Prints outcome judged printed printed'
   pub cause : HasCause outcome store store' sink sink'

@@ -4,10 +4,16 @@ pub mod TodoKinds
 pub mod UsageFaults
 pub mod Reasons
 pub mod StopKinds
+pub mod IndexFaults
 pub mod Refusals
 pub mod Report
 pub mod Status
 pub mod Refusing
 pub mod Words
+pub mod Ids
+pub mod Branches
+pub mod Unbuilt
+pub mod Committers
+pub mod Commits
 pub mod Pick
 pub mod Answers

@@ -1,8 +1,9 @@
 -- Why an invocation is refused.
 use Rattle.std.specs.Prelude.{ℕ, List, codes, [], ◌++◌}
 use Rattle.seq_model.specs.Fields.{bytes_field, number_field, id_field, found_field, exit_field, todo_bad_fields}
+use Rattle.seq_model.specs.IndexFaults.{index_fault_fields}
 use Rattle.seq_model.specs.declared.refusal.Refusal.{Refusal}
-use Rattle.seq_model.specs.declared.refusal.Refusal.TheVariants.{NotARepository, InProgress, BadHead, BadRefs, BadConfig, Unsupported, NoSuchRev, AmbiguousRev, NotACommit, NoParent, NoLogEntry, BadRevForm, UnbornHead, NoIdentity, Unmerged, Dirty, Mainline, NoBase, SeveralBases, Octopus, NewRoot, HookRefused, EditorFailed, NothingToDo, HeadMoved, WouldOverwrite, BadObject, NothingInProgress, Interrupted, BadState, TodoBad, Unstaged, Staged, AlreadyARepository, BadPath, NotTracked, EmptyMessage, NotBuilt, Conflict, DriverBroken}
+use Rattle.seq_model.specs.declared.refusal.Refusal.TheVariants.{NotARepository, InProgress, BadHead, BadRefs, BadConfig, Unsupported, BadIndex, NoSuchRev, AmbiguousRev, NotACommit, NoParent, NoLogEntry, BadRevForm, UnbornHead, NoIdentity, Unmerged, Dirty, Mainline, NoBase, SeveralBases, Octopus, NewRoot, HookRefused, EditorFailed, NothingToDo, HeadMoved, WouldOverwrite, BadObject, NothingInProgress, Interrupted, BadState, TodoBad, Unstaged, Staged, AlreadyARepository, BadPath, NotTracked, EmptyMessage, NotBuilt, Conflict, DriverBroken}
 
 abbrev pub refusal_name : Refusal → List ℕ
 refusal_name NotARepository = codes "not-a-repository"
@@ -11,6 +12,7 @@ refusal_name BadHead = codes "bad-head"
 refusal_name (BadRefs line) = codes "bad-refs"
 refusal_name (BadConfig line) = codes "bad-config"
 refusal_name (Unsupported key) = codes "unsupported"
+refusal_name (BadIndex fault) = codes "bad-index"
 refusal_name (NoSuchRev word) = codes "no-such-rev"
 refusal_name (AmbiguousRev word first second) = codes "ambiguous-rev"
 refusal_name (NotACommit word) = codes "not-a-commit"
@@ -54,6 +56,7 @@ refusal_fields BadHead = []
 refusal_fields (BadRefs line) = number_field line
 refusal_fields (BadConfig line) = number_field line
 refusal_fields (Unsupported key) = bytes_field key
+refusal_fields (BadIndex fault) = index_fault_fields fault
 refusal_fields (NoSuchRev word) = bytes_field word
 refusal_fields (AmbiguousRev word first second) = bytes_field word ++ (id_field first ++ id_field second)
 refusal_fields (NotACommit word) = bytes_field word

@@ -2,6 +2,8 @@
 //! invocation, what each prints, and its exit status.
 #![tactic(auto)]
 
+mod committer;
+mod denial;
 mod limit;
 mod outcome;
 mod reason;
@@ -10,6 +12,8 @@ mod stop;
 mod todo_kind;
 mod usage;
 
+pub use committer::Committer;
+pub use denial::Denial;
 pub use limit::LimitWhat;
 pub use outcome::{Outcome, Paths};
 pub use reason::Reason;

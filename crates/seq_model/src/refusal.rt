@@ -1,6 +1,7 @@
 //! Why an invocation is refused.
 
 use crate::todo_kind::TodoKind;
+use index_file::IndexFault;
 use seq_base::{Bytes, Id};
 use seq_outside::Exit;
 
@@ -17,6 +18,7 @@ pub enum Refusal {
     BadConfig { line: u64 },
     /// A key of the configuration has a value that is not supported.
     Unsupported { key: Bytes },
+    BadIndex { fault: IndexFault },
     NoSuchRev { word: Bytes },
     AmbiguousRev { word: Bytes, first: Id, second: Id },
     NotACommit { word: Bytes },

@@ -1,0 +1,32 @@
+-- Who commits (git-commit-tree(1), "Commit Information").
+use Rattle.std.specs.Prelude.{ℕ, Bool, not, ◌&&◌, ◌==◌, if◌then◌else◌, List, [], ◌∷◌, length, codes, Option, Some, None, Result, Ok, option_and_then}
+use Rattle.std.specs.List.{list_all}
+use Rattle.std.specs.Str.{bytes_eq}
+use Rattle.ident_text.specs.Idents.{is_ident_byte}
+use Rattle.seq_model.specs.Refusing.{◌>>=◌, or_refuse}
+use Rattle.seq_model.specs.declared.committer.Committer.{Committer}
+use Rattle.seq_model.specs.declared.denial.Denial.{Denial}
+use Rattle.seq_model.specs.declared.refusal.Refusal.TheVariants.{NotBuilt}
+
+-- the value of the first variable of a name
+abbrev pub variable : List (List ℕ × List ℕ) → List ℕ → Option (List ℕ)
+variable [] name = None
+variable (v ∷ vars) name = if bytes_eq v.0 name then Some v.1 else variable vars name
+
+-- a name or an email that an ident can hold, and not an empty one
+abbrev pub is_identity : List ℕ → Bool
+is_identity text = not (length text == 0) && list_all is_ident_byte text
+
+abbrev pub identity : List ℕ → Option (List ℕ)
+identity text = if is_identity text then Some text else None
+
+-- what a variable gives for a name or an email
+unfoldable pub identity_in : List (List ℕ × List ℕ) → List ℕ → Result (List ℕ) Denial
+identity_in vars name = or_refuse (option_and_then identity (variable vars name)) NotBuilt
+
+-- who commits, by the environment
+unfoldable pub committer_in : List (List ℕ × List ℕ) → Result Committer Denial
+committer_in vars = do
+  name ← identity_in vars (codes "GIT_COMMITTER_NAME")
+  email ← identity_in vars (codes "GIT_COMMITTER_EMAIL")
+  Ok (record { name = name; email = email })
