@@ -1,2 +1,5 @@
 pub mod Appends
+pub mod Ids
+pub mod Least
+pub mod Objects
 pub mod Outcomes

@@ -1,16 +1,25 @@
 //! Why a step of an invocation gives no value.
 
-use seq_model::Refusal;
+ghost use Rattle.std.specs.Prelude.{◌≡◌};
+
+use seq_model::{Denial, Refusal};
 use seq_outside::StoreError;
-use std::alloc::AllocError;
+use std::alloc::{AllocError, AllocFailed};
 
 /// Why a step of an invocation gives no value. A fault is no value of the step: it becomes the outcome at the end.
 #[derive(Drop)]
 pub enum Halt {
-    Refused(Refusal),
+    Denied(Denial),
     /// The store failed.
     Fault,
     Memory,
+}
+
+/// The halt of a refusal.
+pub fn refused(refusal: Refusal) -> Halt
+    ensures { result ≡ Halt.Denied (Denial.Refused refusal) }
+{
+    Halt::Denied(Denial::Refused(refusal))
 }
 
 impl From<StoreError> for Halt {
@@ -35,6 +44,17 @@ impl From<AllocError> for Halt {
     ghost from_gives = { λ _ halt. halt ≡ Memory };
 
     fn from(_: AllocError) -> Halt {
+        Halt::Memory
+    }
+}
+
+impl<T: Drop> From<AllocFailed<T>> for Halt {
+    ghost use Rattle.std.specs.Prelude.{◌≡◌};
+    ghost use Rattle.seq_top.specs.declared.halt.Halt.TheVariants.{Memory};
+
+    ghost from_gives = { λ _ halt. halt ≡ Memory };
+
+    fn from(_: AllocFailed<T>) -> Halt {
         Halt::Memory
     }
 }

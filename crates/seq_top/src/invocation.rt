@@ -13,7 +13,7 @@ use crate::pick::pick;
 use crate::reports::report;
 use crate::words::{BadWords, read_words};
 use seq_base::Bytes;
-use seq_model::Outcome;
+use seq_model::{Denial, Outcome};
 use seq_outside::{Clock, Env, Sink, SinkError, Spawner, Store};
 use std::alloc::Global;
 
@@ -21,11 +21,12 @@ use std::alloc::Global;
 fn judge<S: Store, C: Clock>(
     alloc: Global,
     words: &[Bytes],
+    env: &Env,
     store: &mut S,
     clock: &mut C,
 ) -> Outcome
     ensures fits_words { FitsWords result (words_read words.now) }
-    ensures fits_world { S.told → FitsWorld result (answer_of words.now (S.content store.old)) }
+    ensures fits_world { S.told → FitsWorld result (answer_of words.now env.now.vars (S.content store.old)) }
     ensures same { S.told → S.content store.new ≡ S.content store.old }
     ensures moments { TakesMoments C.ticked (words_read words.now) clock.old clock.new }
     ensures cause { HasJudgedCause result (S.faults store.old) (S.faults store.new) }
@@ -33,9 +34,10 @@ fn judge<S: Store, C: Clock>(
     match read_words(words) {
         Ok(word) => {
             let _moment = clock.now();
-            match pick(alloc, word, store) {
+            match pick(alloc, env.vars.as_slice(), word, store) {
                 Ok(id) => Outcome::Done { head: Some(id) },
-                Err(Halt::Refused(refusal)) => Outcome::Refused(refusal),
+                Err(Halt::Denied(Denial::Refused(refusal))) => Outcome::Refused(refusal),
+                Err(Halt::Denied(Denial::Limit { what, number })) => Outcome::Limit { what, number },
                 Err(Halt::Fault) => Outcome::StoreFault,
                 Err(Halt::Memory) => Outcome::Memory,
             }
@@ -72,12 +74,12 @@ pub fn invoke<S: Store, P: Spawner<S>, C: Clock, O: Sink>(
     out: &mut O,
 ) -> Outcome
     requires { IsZone env.now.zone }
-    ensures answers { Answers S.told O.told words.now (S.content store.old) (S.faults store.old) (S.faults store.new) (O.faults out.old) (O.faults out.new) (O.bytes out.old) (O.bytes out.new) result }
+    ensures answers { Answers S.told O.told words.now env.now.vars (S.content store.old) (S.faults store.old) (S.faults store.new) (O.faults out.old) (O.faults out.new) (O.bytes out.old) (O.bytes out.new) result }
     ensures same { S.told → S.content store.new ≡ S.content store.old }
     ensures no_child { spawner.new ≡ spawner.old }
     ensures moments { TakesMoments C.ticked (words_read words.now) clock.old clock.new }
 {
-    let judged = judge(alloc, words, store, clock);
+    let judged = judge(alloc, words, env, store, clock);
     print(alloc, judged, out)
 }
 
@@ -92,7 +94,7 @@ pub fn run<S: Store, P: Spawner<S>, C: Clock, O: Sink>(
     out: &mut O,
 ) -> u8
     requires { IsZone env.now.zone }
-    ensures answers { (outcome : Outcome) × (result ≡ status_of outcome) × Answers S.told O.told words.now (S.content store.old) (S.faults store.old) (S.faults store.new) (O.faults out.old) (O.faults out.new) (O.bytes out.old) (O.bytes out.new) outcome }
+    ensures answers { (outcome : Outcome) × (result ≡ status_of outcome) × Answers S.told O.told words.now env.now.vars (S.content store.old) (S.faults store.old) (S.faults store.new) (O.faults out.old) (O.faults out.new) (O.bytes out.old) (O.bytes out.new) outcome }
     ensures same { S.told → S.content store.new ≡ S.content store.old }
     ensures no_child { spawner.new ≡ spawner.old }
     ensures moments { TakesMoments C.ticked (words_read words.now) clock.old clock.new }

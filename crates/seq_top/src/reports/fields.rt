@@ -2,9 +2,11 @@
 #![tactic(auto, using(crate::proofs::Appends::appends))]
 
 ghost use Rattle.std.specs.Prelude.{◌≡◌, ◌++◌, OnOk};
+ghost use Rattle.seq_model.specs.IndexFaults.{index_fault_fields};
 ghost use Rattle.seq_model.specs.Fields.{escaped, bytes_field, number_field, id_field, found_field, exit_field, limit_fields, todo_bad_fields};
 
 use crate::reports::names::{limit_what_name, todo_kind_name};
+use index_file::IndexFault;
 use seq_base::Id;
 use seq_model::{LimitWhat, TodoKind};
 use seq_outside::Exit;
@@ -84,6 +86,31 @@ pub fn push_todo_bad(text: &mut Vec<u8>, line: u64, kind: TodoKind) -> Result<()
     push_number(text, line)?;
     text.push(b' ')?;
     text.extend_from_slice(todo_kind_name(kind))
+}
+
+fn push_named_number(text: &mut Vec<u8>, name: &[u8], number: u64) -> Result<(), AllocError>
+    ensures { OnOk result (text.new.items ≡ text.old.items ++ (name.now ++ number_field number)) }
+{
+    text.extend_from_slice(name)?;
+    push_number(text, number)
+}
+
+pub fn push_index_fault(text: &mut Vec<u8>, fault: IndexFault) -> Result<(), AllocError>
+    ensures { OnOk result (text.new.items ≡ text.old.items ++ index_fault_fields fault) }
+{
+    match fault {
+        IndexFault::Magic => text.extend_from_slice(b" magic"),
+        IndexFault::Version { n } => push_named_number(text, b" version", n),
+        IndexFault::Count => text.extend_from_slice(b" count"),
+        IndexFault::Name { n } => push_named_number(text, b" name", n),
+        IndexFault::Order { n } => push_named_number(text, b" order", n),
+        IndexFault::Extension { tag } => {
+            text.extend_from_slice(b" extension")?;
+            push_bytes(text, &tag)
+        }
+        IndexFault::Hash => text.extend_from_slice(b" hash"),
+        IndexFault::Memory => text.extend_from_slice(b" memory"),
+    }
 }
 
 pub fn push_two_ids(text: &mut Vec<u8>, first: Id, second: Id) -> Result<(), AllocError>

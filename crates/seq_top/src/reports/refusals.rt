@@ -5,7 +5,7 @@ ghost use Rattle.std.specs.Prelude.{◌≡◌, ◌++◌, OnOk};
 ghost use Rattle.seq_model.specs.Refusals.{refusal_name as refusal_name_of, refusal_fields};
 
 use crate::reports::fields::{
-    push_ambiguous, push_bytes, push_bytes_exit, push_exit, push_found, push_id, push_number,
+    push_ambiguous, push_bytes, push_bytes_exit, push_exit, push_found, push_id, push_index_fault, push_number,
     push_todo_bad, push_two_ids,
 };
 use seq_model::Refusal;
@@ -21,6 +21,7 @@ fn refusal_name(value: &Refusal) -> &'static [u8]
         Refusal::BadRefs { .. } => b"bad-refs".as_slice(),
         Refusal::BadConfig { .. } => b"bad-config".as_slice(),
         Refusal::Unsupported { .. } => b"unsupported".as_slice(),
+        Refusal::BadIndex { .. } => b"bad-index".as_slice(),
         Refusal::NoSuchRev { .. } => b"no-such-rev".as_slice(),
         Refusal::AmbiguousRev { .. } => b"ambiguous-rev".as_slice(),
         Refusal::NotACommit { .. } => b"not-a-commit".as_slice(),
@@ -68,6 +69,7 @@ fn push_refusal_fields(text: &mut Vec<u8>, value: &Refusal) -> Result<(), AllocE
         Refusal::BadRefs { line } => push_number(text, *line),
         Refusal::BadConfig { line } => push_number(text, *line),
         Refusal::Unsupported { key } => push_bytes(text, key.as_slice()),
+        Refusal::BadIndex { fault } => push_index_fault(text, *fault),
         Refusal::NoSuchRev { word } => push_bytes(text, word.as_slice()),
         Refusal::AmbiguousRev {
             word,
