@@ -17,6 +17,10 @@ use std::{fs, io};
 
 const REPOSITORY: &str = ".git";
 
+const OBJECTS: &str = ".git/objects";
+
+const REFS: &str = ".git/refs";
+
 const TEMPORARY: &str = ".git/gitseq-tmp";
 
 // Who may read, write and run a file.
@@ -123,10 +127,10 @@ fn write_and_move<R: Files + AllocGlobal + Clone + Drop>(
         .write(true)
         .create_new(true)
         .open(rt, TEMPORARY)?;
-    file.write_all(bytes)?;
     if place == Place::File {
         hand_permissions_on(rt, path, &file)?;
     }
+    file.write_all(bytes)?;
     if place == Place::Folder {
         remove_folders(rt, alloc, path)?;
     }
@@ -161,7 +165,8 @@ fn remove_folders<R: Files + AllocGlobal + Clone + Drop>(
     Ok(())
 }
 
-/// Removes a file or a link, and the folders that it leaves empty, up to the root and never `.git`. Answers whether it was there.
+/// Removes a file or a link, and the folders that it leaves empty, up to the root and never `.git`, `.git/objects` or `.git/refs`.
+/// Answers whether it was there.
 pub fn remove<R: Files>(rt: &R, path: &[u8]) -> io::Result<bool> {
     let path = text_of(path)?;
     match place_of(rt, path)? {
@@ -175,10 +180,15 @@ pub fn remove<R: Files>(rt: &R, path: &[u8]) -> io::Result<bool> {
     }
 }
 
+// Without these folders Git finds no repository, also where they would be empty (gitrepository-layout(5)).
+fn is_kept(folder: &str) -> bool {
+    folder.is_empty() || folder == REPOSITORY || folder == OBJECTS || folder == REFS
+}
+
 fn remove_left_empty<R: Files>(rt: &R, path: &str) {
     for folder in Path::new(path).ancestors().skip(1) {
         let folder = folder.as_str();
-        if folder.is_empty() || folder == REPOSITORY || fs::remove_dir(rt, folder).is_err() {
+        if is_kept(folder) || fs::remove_dir(rt, folder).is_err() {
             return;
         }
     }

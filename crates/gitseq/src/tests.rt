@@ -1,5 +1,8 @@
 //! Invocations over the outside in memory.
 
+mod fixture;
+mod picks;
+
 use seq_base::Bytes;
 use seq_memory::{ListClock, QuietSink, QuietSpawner, QuietStore};
 use seq_outside::{Env, Store, Variables};

@@ -85,6 +85,12 @@ fn keeps_files(rt: HostRuntime) -> Result<(), Fail> {
     store.put(alloc, b".git/HEAD", b"x")?;
     assert!(rt; store.remove(alloc, b".git/HEAD")?);
     assert!(rt; fs::exists(&rt, ".git")?);
+    store.put(alloc, b".git/refs/heads/a", b"x")?;
+    store.put(alloc, b".git/objects/00/a", b"x")?;
+    assert!(rt; store.remove(alloc, b".git/refs/heads/a")?);
+    assert!(rt; store.remove(alloc, b".git/objects/00/a")?);
+    assert!(rt; fs::exists(&rt, ".git/refs")? && !fs::exists(&rt, ".git/refs/heads")?);
+    assert!(rt; fs::exists(&rt, ".git/objects")? && !fs::exists(&rt, ".git/objects/00")?);
     leave(&rt, folder.as_str())?;
     Ok(())
 }

@@ -1,0 +1,147 @@
+//! Picks over repositories that Git made.
+
+ghost use Rattle.std.specs.Prelude.{IfOk};
+ghost use Rattle.seq_outside.specs.Env.{IsZone};
+
+use crate::tests::fixture::{A_IS_3, ADD_B, BASE, INDEX_OF_2, files, store};
+use seq_base::Bytes;
+use seq_memory::{ListClock, QuietSink, QuietSpawner};
+use seq_outside::{Env, Variables};
+use std::alloc::Global;
+use std::test::Fail;
+
+fn variable(alloc: Global, name: &str, value: &str) -> Result<(Bytes, Bytes), Fail> {
+    let name = Bytes::from_vec(name.as_bytes().to_vec(alloc)?);
+    Ok((name, Bytes::from_vec(value.as_bytes().to_vec(alloc)?)))
+}
+
+fn environment(alloc: Global, name: &str, email: &str) -> Result<Env, Fail>
+    ensures { IfOk result (λ env. IsZone env.zone) }
+{
+    let mut vars = Vec::new(alloc);
+    vars.push(variable(alloc, "GIT_COMMITTER_NAME", name)?)?;
+    vars.push(variable(alloc, "GIT_COMMITTER_EMAIL", email)?)?;
+    Ok(Env {
+        vars: Variables::from_vec(vars),
+        zone: *b"+0000",
+    })
+}
+
+/// Whether a pick of this word by this committer prints so, over the repository with these changes.
+fn prints_for(
+    alloc: Global,
+    committer: (&str, &str),
+    changes: &[(&str, &[u8])],
+    word: &str,
+    printed: &str,
+) -> Result<bool, Fail> {
+    let mut words = Vec::new(alloc);
+    words.push(Bytes::from_vec(b"cherry-pick".to_vec(alloc)?))?;
+    words.push(Bytes::from_vec(word.as_bytes().to_vec(alloc)?))?;
+    let env = environment(alloc, committer.0, committer.1)?;
+    let mut store = store(alloc, &files(alloc, changes)?)?;
+    let mut spawner = QuietSpawner::new(Vec::new(alloc));
+    let mut clock = ListClock::new(Vec::new(alloc));
+    let mut out = QuietSink::new(alloc)?;
+    let status = seq_top::run(
+        alloc,
+        &words,
+        &env,
+        &mut store,
+        &mut spawner,
+        &mut clock,
+        &mut out,
+    );
+    Ok(status == 3 && out.bytes() == printed.as_bytes())
+}
+
+fn prints(
+    alloc: Global,
+    changes: &[(&str, &[u8])],
+    word: &str,
+    printed: &str,
+) -> Result<bool, Fail> {
+    prints_for(alloc, ("Sam", "sam@x"), changes, word, printed)
+}
+
+// Each stands in the way of a pick until it is taken up.
+#[test]
+fn what_is_not_taken_yet_is_not_built(rt: HostRuntime) -> Result<(), Fail> {
+    let alloc = rt.alloc();
+    for (path, bytes) in [
+        (".git/rebase-merge/done", b"".as_slice()),
+        (".git/sequencer/todo", b""),
+        (".git/rebase-apply/next", b"1\n"),
+        (
+            ".git/CHERRY_PICK_HEAD",
+            b"063e68e4d0d70bddbb9e204763cae96183b574ca\n",
+        ),
+        (".git/config", b"[core]\n"),
+        (".git/packed-refs", b""),
+        (".git/hooks/pre-commit", b""),
+        (
+            ".git/HEAD",
+            b"d121e10699140c3fa862544172d391513c3337cf\n",
+        ),
+        (".git/HEAD", b"ref: refs/heads/a/b\n"),
+        (".git/refs/heads/master", b"d121\n"),
+    ] {
+        assert!(rt; prints(alloc, &[(path, bytes)], ADD_B, "refused not-built\n")?);
+    }
+    Ok(())
+}
+
+// A commit is named by forty digits, and has one parent.
+#[test]
+fn words_that_are_not_taken_yet_are_not_built(rt: HostRuntime) -> Result<(), Fail> {
+    let alloc = rt.alloc();
+    let long = "063e68e4d0d70bddbb9e204763cae96183b574ca0";
+    assert!(rt; prints(alloc, &[], long, "refused not-built\n")?);
+    assert!(rt; prints(alloc, &[], BASE, "refused not-built\n")?);
+    assert!(rt; prints_for(alloc, ("Sam", ""), &[], ADD_B, "refused not-built\n")?);
+    assert!(rt; prints_for(alloc, ("S<m", "sam@x"), &[], ADD_B, "refused not-built\n")?);
+    Ok(())
+}
+
+// The ids are those of `git hash-object`: the commit and its tree, the blob `hello`, and 40 digits that name nothing.
+#[test]
+fn bad_objects_are_named(rt: HostRuntime) -> Result<(), Fail> {
+    let alloc = rt.alloc();
+    let missing = "1234567890123456789012345678901234567890";
+    assert!(rt; prints(alloc, &[], missing, "refused bad-object 1234567890123456789012345678901234567890\n")?);
+    let blob = "ce013625030ba8dba906f756967f9e9ca394464a";
+    assert!(rt; prints(alloc, &[], blob, "refused bad-object ce013625030ba8dba906f756967f9e9ca394464a\n")?);
+    let tree = ".git/objects/2f/3f2bfbfdd99b445e3e70f6ce20c241282d900d";
+    let refused = "refused bad-object 2f3f2bfbfdd99b445e3e70f6ce20c241282d900d\n";
+    assert!(rt; prints(alloc, &[(tree, b"blob 0\0")], ADD_B, refused)?);
+    let commit = ".git/objects/06/3e68e4d0d70bddbb9e204763cae96183b574ca";
+    let refused = "refused bad-object 063e68e4d0d70bddbb9e204763cae96183b574ca\n";
+    assert!(rt; prints(alloc, &[(commit, b"commit 0\0")], ADD_B, refused)?);
+    Ok(())
+}
+
+// What `git status` calls modified, and what `git cherry-pick` calls a conflict. The change comes first.
+#[test]
+fn changes_and_conflicts_are_refused(rt: HostRuntime) -> Result<(), Fail> {
+    let alloc = rt.alloc();
+    let changed = ("c", b"changed\n".as_slice());
+    assert!(rt; prints(alloc, &[changed], ADD_B, "refused dirty c\n")?);
+    let tip = (
+        ".git/refs/heads/master",
+        b"c56e2533085588af6f12caf4e915ee63c70bea54\n".as_slice(),
+    );
+    let index = (".git/index", INDEX_OF_2);
+    let a = ("a", b"2\n".as_slice());
+    assert!(rt; prints(alloc, &[tip, index, a], A_IS_3, "refused conflict a\n")?);
+    assert!(rt; prints(alloc, &[tip, index, a, changed], A_IS_3, "refused dirty c\n")?);
+    assert!(rt; prints(alloc, &[tip, a], A_IS_3, "refused dirty a\n")?);
+    Ok(())
+}
+
+#[test]
+fn an_index_of_another_version_is_bad(rt: HostRuntime) -> Result<(), Fail> {
+    let alloc = rt.alloc();
+    let index = (".git/index", b"DIRC\0\0\0\x04\0\0\0\0".as_slice());
+    assert!(rt; prints(alloc, &[index], ADD_B, "refused bad-index version 4\n")?);
+    Ok(())
+}
