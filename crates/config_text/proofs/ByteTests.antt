@@ -1,11 +1,11 @@
 -- Which bytes pass which tests.
-use Rattle.std.proofs.Common.{◌≡◌, ℕ, Bool, true, false, cond, eqb, not, ◌&&◌, ◌||◌, Option, Some, None, refl, sym, ap, subst, ◌∙◌, ◌⊎◌, inl, inr}
+use Rattle.std.proofs.Common.{◌≡◌, ℕ, Bool, true, false, eqb, not, ◌&&◌, ◌||◌, Option, Some, None, refl, sym, ap, subst, ◌∙◌, ◌⊎◌, inl, inr}
 use Rattle.std.specs.Prelude.{is_some}
 use Rattle.std.proofs.lemmas.Bool.{eqb-true}
 use Rattle.grammar.proofs.Passing.{and_true}
-use Rattle.config_text.specs.Bytes.{is_blank, is_comment_mark, is_in_line, is_section_byte, is_letter, is_key_byte, is_sub_byte, is_plain_sub_byte, escaped}
+use Rattle.config_text.specs.Bytes.{is_blank, is_comment_mark, is_letter, escaped}
 use Rattle.config_text.specs.Values.{is_itself}
-use Rattle.config_text.specs.Reading.{is_end, behind_end}
+use Rattle.config_text.specs.Reading.{is_end}
 
 pub not_true : (a : Bool) → not a ≡ true → a ≡ false
 not_true true e = absurd cc

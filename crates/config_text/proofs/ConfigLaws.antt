@@ -1,10 +1,9 @@
 -- The reader of a configuration reads its texts.
-use Rattle.std.proofs.Common.{◌≡◌, ℕ, suc, ◌<◌, List, [], ◌∷◌, ◌++◌, length, get_or, Option, Some, None, Result, Ok, Err, refl, sym, ap, subst, ◌∙◌}
-use Rattle.std.specs.List.{flat_map}
-use Rattle.grammar.specs.Grammar.{AllBytes, GoesOn}
+use Rattle.std.proofs.Common.{◌≡◌, ℕ, suc, ◌<◌, List, [], ◌∷◌, ◌++◌, get_or, Some, Result, Ok, Err, sym, ap, ◌∙◌}
+use Rattle.grammar.specs.Grammar.{AllBytes}
 use Rattle.grammar.specs.Readers.{NoneGoesOn, Stops, ReadsAll}
 use Rattle.config_text.specs.declared.config.Setting.{Setting}
-use Rattle.config_text.specs.Configs.{IsConfig, without_returns, line_text}
+use Rattle.config_text.specs.Configs.{IsConfig, without_returns}
 use Rattle.config_text.specs.Reading.{start}
 use Rattle.config_text.specs.Returns.{Front, fed, read_from}
 use Rattle.config_text.proofs.Runs.{ran, IsDead, failing, goes, dead_on, ran_live, goes_on}

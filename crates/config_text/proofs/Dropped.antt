@@ -4,9 +4,9 @@ use Rattle.std.proofs.lemmas.Bool.{eqb-true}
 use Rattle.config_text.specs.declared.config.Setting.{Setting}
 use Rattle.config_text.specs.declared.place.Place.{Place}
 use Rattle.config_text.specs.declared.place.Place.TheVariants.{Start, Indented, Section, BehindSection, Sub, SubEscape, BehindSub, BehindHeader, Key, BehindKey, Value, ValueEscape, Quoted, QuotedEscape, Comment}
-use Rattle.config_text.specs.Configs.{begins_with_feed, without_returns}
+use Rattle.config_text.specs.Configs.{without_returns}
 use Rattle.config_text.specs.Reading.{State, step, may_return, whole}
-use Rattle.config_text.specs.Returns.{Front, fed, settled, unreturned, then_feed, feed, then_close, close, or_end, going, read_from}
+use Rattle.config_text.specs.Returns.{Front, fed, unreturned, then_feed, feed, then_close, close, or_end, going, read_from}
 use Rattle.config_text.proofs.Runs.{st, some_length}
 
 -- the reader of lines without them

@@ -1,5 +1,5 @@
 -- What a configuration spells, the reader finds.
-use Rattle.std.proofs.Common.{◌≡◌, ℕ, suc, Bool, true, false, cond, eqb, not, ◌&&◌, List, [], ◌∷◌, ◌++◌, length, map, Option, Some, None, refl, sym, ap, subst, ◌∙◌, append_assoc}
+use Rattle.std.proofs.Common.{◌≡◌, ℕ, Bool, true, false, cond, eqb, not, ◌&&◌, List, [], ◌∷◌, ◌++◌, length, Option, Some, None, refl, sym, ap, subst, ◌∙◌, append_assoc}
 use Rattle.std.specs.Prelude.{codes, unwrap_or, is_some}
 use Rattle.std.specs.Char.{to_ascii_lowercase}
 use Rattle.std.specs.List.{list_all, flat_map}
@@ -7,12 +7,12 @@ use Rattle.std.proofs.lemmas.List.{append-nil}
 use Rattle.grammar.proofs.Passing.{and_true}
 use Rattle.config_text.specs.declared.config.Setting.{Setting}
 use Rattle.config_text.specs.declared.place.Place.{Place}
-use Rattle.config_text.specs.declared.place.Place.TheVariants.{Start, Indented, Section, BehindSection, Sub, SubEscape, BehindSub, BehindHeader, Key, BehindKey, Value, ValueEscape, Quoted, QuotedEscape, Comment}
-use Rattle.config_text.specs.Bytes.{is_blank, is_comment_mark, is_in_line, is_section_byte, is_letter, is_key_byte, is_sub_byte, is_plain_sub_byte, escaped, lower}
-use Rattle.config_text.specs.Values.{Part, Byte, Escape, Join, Quote, part_text, is_itself, is_value, Mark, marks, value_of}
+use Rattle.config_text.specs.declared.place.Place.TheVariants.{Start, Indented, BehindSection, BehindHeader, Key, BehindKey, Value, ValueEscape, Quoted, QuotedEscape, Comment}
+use Rattle.config_text.specs.Bytes.{is_blank, is_comment_mark, is_in_line, is_letter, is_key_byte, escaped, lower}
+use Rattle.config_text.specs.Values.{Part, Byte, Escape, Join, Quote, part_text, is_itself, is_value, marks, value_of}
 use Rattle.config_text.specs.Configs as text
 use Rattle.config_text.specs.Configs.{kept, assigned, Assignment, Header, Line, given, section_behind, sub_behind, sub_of}
-use Rattle.config_text.specs.Reading.{State, step, whole}
+use Rattle.config_text.specs.Reading.{State, step}
 use Rattle.config_text.proofs.Runs.{st}
 use Rattle.config_text.proofs.Dropped.{core}
 use Rattle.config_text.proofs.Gathered.{gathered, gathered_is}

@@ -1,14 +1,13 @@
 -- Runs over a text: where they stop, and that each may still come to an end.
-use Rattle.std.proofs.Common.{◌≡◌, ℕ, suc, ◌<◌, Bool, true, false, cond, eqb, List, [], ◌∷◌, ◌++◌, length, Option, Some, None, Result, Ok, Err, refl, sym, ap, subst, ◌∙◌, arith}
+use Rattle.std.proofs.Common.{◌≡◌, ℕ, suc, Bool, true, false, cond, eqb, List, [], ◌∷◌, ◌++◌, length, Option, Some, None, Result, Ok, Err, refl, sym, ap, subst, ◌∙◌, arith}
 use Rattle.std.specs.Prelude.{is_ok}
-use Rattle.std.proofs.lemmas.Bool.{eqb-true, ne_eqb}
+use Rattle.std.proofs.lemmas.Bool.{ne_eqb}
 use Rattle.grammar.specs.Grammar.{AllBytes}
 use Rattle.config_text.specs.declared.config.Setting.{Setting}
 use Rattle.config_text.specs.declared.place.Place.{Place}
 use Rattle.config_text.specs.declared.place.Place.TheVariants.{Start, Indented, Section, BehindSection, Sub, SubEscape, BehindSub, BehindHeader, Key, BehindKey, Value, ValueEscape, Quoted, QuotedEscape, Comment}
-use Rattle.config_text.specs.Configs.{begins_with_feed, without_returns}
-use Rattle.config_text.specs.Reading.{State, step, may_return, is_start, whole}
-use Rattle.config_text.specs.Returns.{Front, fed, settled, unreturned, then_feed, feed, then_close, close, or_end, going, read_from}
+use Rattle.config_text.specs.Reading.{State, step, may_return}
+use Rattle.config_text.specs.Returns.{Front, fed, settled, unreturned, then_feed, feed, close, or_end, going, read_from}
 
 abbrev pub st : Place → List Setting → List ℕ → List ℕ → List ℕ → List ℕ → List ℕ → State
 st place settings section sub key value blanks = record { place = place; settings = settings; section = section; sub = sub; key = key; value = value; blanks = blanks }

@@ -1,25 +1,22 @@
 -- What the reader finds, some lines spell: what stands before the end of a text, by the place from which it is read.
-use Rattle.std.proofs.Common.{◌≡◌, ℕ, Bool, true, false, cond, eqb, not, ◌&&◌, ◌||◌, List, [], ◌∷◌, ◌++◌, length, map, Option, Some, None, refl, sym, ap, subst, ◌∙◌, append_assoc, ◌⊎◌, inl, inr}
+use Rattle.std.proofs.Common.{◌≡◌, ℕ, Bool, true, false, cond, eqb, not, ◌&&◌, ◌||◌, List, [], ◌∷◌, ◌++◌, length, map, Option, Some, None, refl, sym, ap, subst, ◌∙◌, ◌⊎◌, inl, inr}
 use Rattle.std.specs.Prelude.{codes, is_some, unwrap_or}
-use Rattle.std.specs.Char.{to_ascii_lowercase}
 use Rattle.std.specs.List.{list_all, flat_map}
 use Rattle.std.proofs.lemmas.Bool.{eqb-true}
-use Rattle.std.proofs.lemmas.List.{append-nil}
-use Rattle.grammar.proofs.Passing.{and_true}
 use Rattle.config_text.specs.declared.config.Setting.{Setting}
 use Rattle.config_text.specs.declared.place.Place.{Place}
 use Rattle.config_text.specs.declared.place.Place.TheVariants as place
-use Rattle.config_text.specs.Bytes.{is_blank, is_comment_mark, is_in_line, is_section_byte, is_letter, is_key_byte, is_sub_byte, is_plain_sub_byte, escaped, lower}
-use Rattle.config_text.specs.Values.{Part, Byte, Escape, Join, Quote, part_text, is_itself, is_value, Mark, marks, value_of}
+use Rattle.config_text.specs.Bytes.{is_blank, is_comment_mark, is_in_line, is_section_byte, is_key_byte, is_sub_byte, escaped, lower}
+use Rattle.config_text.specs.Values.{Part, Byte, Escape, Join, Quote, part_text, is_itself, is_value, marks}
 use Rattle.config_text.specs.Configs as text
 use Rattle.config_text.specs.Configs.{SubPart, Plain, Quoted, sub_part_text, is_sub_part, sub_part_byte, Header, Assignment, Line, line_text, section_behind, sub_behind, sub_of, settings_of, are_lines, assigned, kept, given}
-use Rattle.config_text.specs.Reading.{State, step, is_end, behind_end, with_escaped, whole}
+use Rattle.config_text.specs.Reading.{State, step, is_end, behind_end, with_escaped}
 use Rattle.config_text.proofs.Runs.{st}
 use Rattle.config_text.proofs.Dropped.{core}
-use Rattle.config_text.proofs.Gathered.{gathered, gathered_is}
-use Rattle.config_text.proofs.ByteTests.{not_true, or_false, or_true}
+use Rattle.config_text.proofs.Gathered.{gathered}
+use Rattle.config_text.proofs.ByteTests.{or_false}
 use Rattle.config_text.proofs.Reached.{then_item, in_value}
-use Rattle.config_text.proofs.ReachedLines.{then_sub, then_header, spread}
+use Rattle.config_text.proofs.ReachedLines.{then_sub, then_header}
 
 pub both : (a b : Bool) → a ≡ true → b ≡ true → (a && b) ≡ true
 both a b p q = rw (p, q) refl

@@ -5,18 +5,17 @@ use Rattle.std.specs.Char.{to_ascii_lowercase}
 use Rattle.std.specs.List.{list_all, flat_map}
 use Rattle.std.proofs.lemmas.Bool.{eqb-true}
 use Rattle.std.proofs.lemmas.List.{append-nil}
-use Rattle.grammar.proofs.Passing.{and_true}
 use Rattle.config_text.specs.declared.config.Setting.{Setting}
 use Rattle.config_text.specs.declared.place.Place.{Place}
 use Rattle.config_text.specs.declared.place.Place.TheVariants as place
 use Rattle.config_text.specs.Bytes.{is_blank, is_section_byte, is_letter, is_key_byte, is_sub_byte, is_plain_sub_byte, escaped, lower}
-use Rattle.config_text.specs.Values.{marks, value_of}
+use Rattle.config_text.specs.Values.{marks}
 use Rattle.config_text.specs.Configs as text
 use Rattle.config_text.specs.Configs.{Plain, Quoted, is_sub_part, sub_part_byte, Header, Line, line_text, section_behind, sub_behind, sub_of, settings_of, are_lines, assigned, kept, given}
-use Rattle.config_text.specs.Reading.{step, is_end, behind_end, at_item, moved, whole}
+use Rattle.config_text.specs.Reading.{step, is_end, behind_end, at_item}
 use Rattle.config_text.proofs.Runs.{st, some_length}
 use Rattle.config_text.proofs.Dropped.{core}
-use Rattle.config_text.proofs.Gathered.{gathered, gathered_is}
+use Rattle.config_text.proofs.Gathered.{gathered_is}
 use Rattle.config_text.proofs.ReachedLines.{then_sub, then_header, spread}
 use Rattle.config_text.proofs.Reached.{then_item}
 use Rattle.config_text.proofs.Understood.{From, FromStart, FromEnd, FromValue, FromBehindKey, FromKey, FromItem, FromBehindHeader, FromSub, FromSubEscape, FromBehindSub, FromBehindSection, FromSection, FromFront, Back, both, not_false, none, cons, behind_byte, back_end, back_comment, back_value, back_quotes, back_escape}
