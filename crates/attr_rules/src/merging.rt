@@ -130,7 +130,7 @@ mod tests {
 
     // The texts of .git/info/attributes, d/.gitattributes and .gitattributes, a path, and what `git check-attr merge` of
     // git 2.39.5 says.
-    const ANSWERS: [(&[u8], &[u8], &[u8], &[u8], &[u8]); 17] = [
+    const ANSWERS: [(&[u8], &[u8], &[u8], &[u8], &[u8]); 25] = [
         (b"", b"", b"* merge=a\n*.c merge=b\n", b"x.c", b"b"),
         (b"", b"* merge=b\n", b"* merge=a\n", b"d/x", b"b"),
         (
@@ -172,6 +172,44 @@ mod tests {
         (b"", b"", b"/x merge=a\n", b"d/x", b"unspecified"),
         (b"", b"/x merge\n", b"", b"d/x", b"set"),
         (b"", b"", b"x merge=", b"x", b""),
+        (b"", b"", b"d/** merge=a\n", b"d/e/x", b"a"),
+        (b"", b"**/x merge=c\n", b"", b"d/e/x", b"c"),
+        (b"", b"", b"d/**/x merge=c\n", b"d/x", b"c"),
+        (
+            b"",
+            b"",
+            b"* merge=a\n**/e/* !merge\n",
+            b"d/e/x",
+            b"unspecified",
+        ),
+        (
+            b"",
+            b"e/ merge=c\ne/* merge=b\n",
+            b"* merge=a\n",
+            b"d/e/x",
+            b"b",
+        ),
+        (
+            b"",
+            b"/e/x -merge\n",
+            b"/e/x merge=a\nd/e/x merge=c\n",
+            b"d/e/x",
+            b"unset",
+        ),
+        (
+            b"",
+            b"",
+            b"[attr]m merge=z\n[attr]n m\n[attr]o n text\n*.q o\n",
+            b"d/x.q",
+            b"z",
+        ),
+        (
+            b"",
+            b"* !merge\n",
+            b"[attr]m merge=z\n* m\n",
+            b"d/x",
+            b"unspecified",
+        ),
     ];
 
     #[test]

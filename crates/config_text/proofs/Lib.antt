@@ -1,0 +1,9 @@
+pub mod Runs
+pub mod Dropped
+pub mod Gathered
+pub mod ByteTests
+pub mod Reached
+pub mod ReachedLines
+pub mod Understood
+pub mod UnderstoodLines
+pub mod ConfigLaws
