@@ -1,10 +1,15 @@
 //! HEAD.
 
-ghost use Rattle.std.specs.Prelude.{◌≡◌, ◌∷◌, ◌++◌, [], codes, IfOk};
+ghost use Rattle.std.specs.Prelude.{◌≡◌, ◌∷◌, ◌++◌, [], codes, IfOk, List, MatchOption, ℕ};
+ghost use Rattle.grammar.specs.Grammar.{IsReading};
 ghost use Rattle.hex.specs.Hex.{encode_lower};
+ghost use Rattle.seq_base.specs.Ids.{SpellsId};
+ghost use Rattle.seq_base.specs.RefNames.{IsRefName};
+ghost use Rattle.ref_text.specs.Faults.{IsHeadFault};
 ghost use Rattle.ref_text.specs.Heads.{IsHeadValue, SpellsHead, head_text as text_of_head};
 
-use seq_base::{Bytes, Id};
+use crate::fault::HeadFault;
+use seq_base::{Bytes, Id, is_ref_name};
 use std::alloc::{AllocError, Global};
 
 /// What HEAD is: a branch that is checked out, by its whole name, or a commit.
@@ -46,6 +51,53 @@ pub fn head_text(alloc: Global, head: &Head) -> Result<Vec<u8>, AllocError>
     }
 }
 
+/// The one line of a text, without its line feed.
+#[tactic(auto, using(crate::proofs::HeadLaws::lines))]
+fn line_of(text: &[u8]) -> Option<&[u8]>
+    ensures { MatchOption result ((line : List ℕ) → text.now ≡ line ++ 10 ∷ [] → ⊥) (λ line. text.now ≡ line.now ++ 10 ∷ []) }
+{
+    text.strip_suffix(b"\n")
+}
+
+/// The branch that a line names.
+#[tactic(auto, using(crate::proofs::HeadLaws::branches))]
+fn branch_of(line: &[u8]) -> Option<&[u8]>
+    ensures { MatchOption result ((name : List ℕ) → IsRefName name → line.now ≡ codes "ref: " ++ name → ⊥) (λ name. IsRefName name.now × (line.now ≡ codes "ref: " ++ name.now)) }
+{
+    let name = line.strip_prefix(b"ref: ")?;
+    if is_ref_name(name) { Some(name) } else { None }
+}
+
+/// The id that forty digits spell.
+fn id_of(digits: &[u8]) -> Option<Id>
+    ensures { MatchOption result ((id : List ℕ) → SpellsId id digits.now → ⊥) (λ id. SpellsId id digits.now) }
+{
+    match Id::from_hex(digits) {
+        Ok(id) => Some(id),
+        Err(_) => None,
+    }
+}
+
+/// What HEAD is by its text, all of it: `ref: <name>` or forty hex digits in either case, and LF. Bad where it is neither
+/// (gitrepository-layout(5), "HEAD"; git-symbolic-ref(1)).
+pub fn parse_head(alloc: Global, text: &[u8]) -> Result<Head, HeadFault>
+    ensures { IsReading (λ head. head) (IsHeadFault text.now) SpellsHead text.now result }
+{
+    let Some(line) = line_of(text) else {
+        return Err(HeadFault::Bad);
+    };
+    if let Some(name) = branch_of(line) {
+        return match Vec::from_slice(alloc, name) {
+            Ok(name) => Ok(Head::Branch(Bytes::from_vec(name))),
+            Err(_) => Err(HeadFault::Memory),
+        };
+    }
+    match id_of(line) {
+        Some(id) => Ok(Head::Detached(id)),
+        None => Err(HeadFault::Bad),
+    }
+}
+
 #[cfg(test)]
 mod tests {
     use super::*;
@@ -61,5 +113,42 @@ mod tests {
         let text = head_text(rt.alloc(), &Head::Detached(id))?;
         assert!(rt; text.as_slice() == b"efab87d410878beed505e84a9a60586ba94179e6\n".as_slice());
         Ok(())
+    }
+
+    #[test]
+    fn head_is_read_as_git_wrote_it(rt: HostRuntime) -> Result<(), Fail> {
+        let branch = Head::Branch(Bytes::from_vec(Vec::from_slice(
+            rt.alloc(),
+            b"refs/heads/side",
+        )?));
+        assert!(rt; parse_head(rt.alloc(), b"ref: refs/heads/side\n") == Ok(branch));
+        let id = Id::from_hex(b"efab87d410878beed505e84a9a60586ba94179e6")?;
+        for text in [
+            b"efab87d410878beed505e84a9a60586ba94179e6\n".as_slice(),
+            b"EFAB87D410878BEED505E84A9A60586BA94179E6\n",
+        ] {
+            assert!(rt; parse_head(rt.alloc(), text) == Ok(Head::Detached(id)));
+        }
+        Ok(())
+    }
+
+    #[test]
+    fn other_text_is_no_head(rt: HostRuntime) {
+        for text in [
+            b"".as_slice(),
+            b"\n",
+            b"ref: refs/heads/side",
+            b"ref: refs/heads/side \n",
+            b"ref: refs/heads/side\r\n",
+            b"ref: refs/heads/side\n\n",
+            b"ref:refs/heads/side\n",
+            b"ref: refs/heads/a.lock\n",
+            b"ref: side\n",
+            b"efab87d410878beed505e84a9a60586ba94179e6",
+            b"efab87d410878beed505e84a9a60586ba94179e\n",
+            b"gfab87d410878beed505e84a9a60586ba94179e6\n",
+        ] {
+            assert!(rt; parse_head(rt.alloc(), text) == Err(HeadFault::Bad));
+        }
     }
 }

@@ -6,5 +6,5 @@ mod head;
 mod log;
 
 pub use fault::{HeadFault, LineFault};
-pub use head::{Head, head_text};
+pub use head::{Head, head_text, parse_head};
 pub use log::{LogLine, log_text};
