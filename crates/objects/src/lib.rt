@@ -4,7 +4,9 @@
 mod fault;
 mod place;
 mod read;
+mod write;
 
 pub use fault::ObjectFault;
 pub use place::CONTENT_LIMIT;
 pub use read::get;
+pub use write::put;
