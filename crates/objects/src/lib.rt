@@ -10,3 +10,6 @@ pub use fault::ObjectFault;
 pub use place::CONTENT_LIMIT;
 pub use read::get;
 pub use write::put;
+
+#[cfg(test)]
+mod tests;
