@@ -1,5 +1,5 @@
 -- The text of an object, `<kind> SP <length> NUL <content>` (Pro Git 10.2, "Object Storage"; git-cat-file(1) names the kinds).
-use Rattle.std.specs.Prelude.{◌≡◌, ℕ, List, ◌∷◌, ◌++◌, length, codes, decimal, Some}
+use Rattle.std.specs.Prelude.{◌≡◌, ℕ, List, [], ◌∷◌, ◌++◌, length, codes, decimal, Some}
 use Rattle.grammar.specs.Decimals.{decimal_value}
 use Rattle.object_text.specs.declared.object.Kind.{Kind}
 use Rattle.object_text.specs.declared.object.Kind.TheVariants.{Blob, Tree, Commit, Tag}
@@ -11,6 +11,10 @@ kind_text Blob = codes "blob"
 kind_text Tree = codes "tree"
 kind_text Commit = codes "commit"
 kind_text Tag = codes "tag"
+
+-- what stands before the content of so many bytes
+abbrev pub header_text : Kind → ℕ → List ℕ
+header_text kind count = kind_text kind ++ 32 ∷ decimal count ++ 0 ∷ []
 
 -- the text of an object, whose length a computer can count
 abbrev pub object_text : Object → List ℕ

@@ -14,7 +14,7 @@ mod tree_name;
 pub use commit::{Commit, Ids, parse_commit};
 pub use commit_write::commit_text;
 pub use fault::TextFault;
-pub use object::{Kind, Object, object_text, parse_object};
+pub use object::{Kind, Object, object_header, object_text, parse_object};
 pub use tree::{TreeEntry, parse_tree, tree_text};
 
 #[cfg(test)]

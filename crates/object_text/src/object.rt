@@ -5,7 +5,7 @@ ghost use Rattle.grammar.specs.Gives.{Gives};
 ghost use Rattle.grammar.specs.Grammar.{IsReading};
 ghost use Rattle.grammar.specs.Keywords.{may_of};
 ghost use Rattle.object_text.specs.Faults.{IsTextFault};
-ghost use Rattle.object_text.specs.Objects.{kind_text as text_of_kind, object_text as text_of_object, IsObject};
+ghost use Rattle.object_text.specs.Objects.{header_text as header_of_object, kind_text as text_of_kind, object_text as text_of_object, IsObject};
 ghost use Rattle.object_text.specs.ReadObjects.{kinds, kind_from, sized_from, object_from};
 
 use crate::fault::TextFault;
@@ -139,14 +139,22 @@ fn word_of_kind(kind: Kind) -> &'static [u8]
     }
 }
 
+/// What stands before the content in the text of an object, `<kind> SP <length> NUL`.
+pub fn object_header(alloc: Global, kind: Kind, length: usize) -> Result<Vec<u8>, AllocError>
+    ensures { IfOk result (λ header. header.items ≡ header_of_object kind length) }
+{
+    let mut buffer = Buffer::new();
+    let mut header = Vec::from_slice(alloc, word_of_kind(kind))?;
+    header.push(b' ')?;
+    header.extend_from_slice(buffer.format(length).as_bytes())?;
+    header.push(0)?;
+    Ok(header)
+}
+
 fn put_together(alloc: Global, kind: Kind, bytes: &[u8]) -> Result<Vec<u8>, AllocError>
     ensures { IfOk result (λ text. text.items ≡ text_of_object (record { kind = kind; bytes = bytes.now })) }
 {
-    let mut buffer = Buffer::new();
-    let mut text = Vec::from_slice(alloc, word_of_kind(kind))?;
-    text.push(b' ')?;
-    text.extend_from_slice(buffer.format(bytes.len()).as_bytes())?;
-    text.push(0)?;
+    let mut text = object_header(alloc, kind, bytes.len())?;
     text.extend_from_slice(bytes)?;
     Ok(text)
 }

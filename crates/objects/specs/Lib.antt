@@ -1,3 +1,4 @@
 pub mod Causes
 pub mod Reads
 pub mod Drafted
+pub mod Puts

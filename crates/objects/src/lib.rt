@@ -5,8 +5,13 @@ mod draft;
 mod fault;
 mod place;
 mod read;
+mod write;
 
 pub use draft::draft_object;
 pub use fault::ObjectFault;
 pub use place::CONTENT_LIMIT;
 pub use read::get;
+pub use write::put;
+
+#[cfg(test)]
+mod tests;

@@ -15,7 +15,7 @@ use sha1::Sha1;
 use std::alloc::Global;
 
 /// The id of the object whose text the bytes are.
-fn id_of_text(text: &[u8]) -> Id
+pub fn id_of_text(text: &[u8]) -> Id
     ensures { result ≡ sha1 text.now }
 {
     Id::from_bytes(Sha1::digest(text))

@@ -8,3 +8,6 @@ mod tree;
 
 pub use fault::TreeFault;
 pub use read::read_map;
+
+#[cfg(test)]
+mod tests;

@@ -1,0 +1,171 @@
+-- An object that is put.
+use Rattle.std.proofs.Common.{◌≡◌, ◌⊎◌, ℕ, ◌<◌, ◌≤◌, ◌^◌, Bool, true, false, cond, ◌==◌, ◌&&◌, take, drop, List, [], ◌∷◌, ◌++◌, length, Option, Some, None, Result, Ok, Err, refl, sym, ap, subst, ◌∙◌, append_assoc, inl, inr, arith}
+use Rattle.std.specs.Prelude.{decimal}
+use Rattle.std.specs.FinMap as map
+use Rattle.std.specs.Cmp.Lexicographic.{nat_list_cmp_total}
+use Rattle.std.specs.Ordering.{eq_by_cmp}
+use Rattle.std.specs.Str.{bytes_eq}
+use Rattle.std.proofs.lemmas.Bool.{both_ways, false_from_ne_true}
+use Rattle.std.proofs.lemmas.List.{length-take-le, take-append-drop}
+use Rattle.std.proofs.lemmas.Slice.Eq.{bytes_eq-Decides}
+use Rattle.sha1.specs.Sha1.{sha1}
+use Rattle.seq_base.specs.Paths.{parts}
+use Rattle.seq_base.specs.Repository.{IsRepository, is_file_place}
+use Rattle.seq_base.specs.World.{World, is_blocked, path_cmp}
+use Rattle.seq_base.proofs.Repositories.{kept_is_free, stays_repository_kept}
+use Rattle.seq_base.proofs.Shape.{equal_to_itself}
+use Rattle.object_text.specs.declared.object.Object.{Object}
+use Rattle.object_text.specs.Objects.{header_text, kind_text, object_text, IsObject}
+use Rattle.object_text.specs.Store.{Put, content_limit, object_at, object_id, object_path, put_at, put_object}
+use Rattle.object_text.proofs.ObjectLaws.{object_written}
+use Rattle.objects.specs.Puts.{HasOther, HasPut, IsKept, IsPut}
+use Rattle.objects.specs.declared.fault.ObjectFault.{ObjectFault}
+use Rattle.objects.specs.declared.fault.ObjectFault.TheVariants.{Missing, TooLarge, WrongHash, BadText, Collision, Fault, Memory}
+use Rattle.objects.proofs.Reading.{object_read}
+use Rattle.objects.specs.Causes.{fault_of}
+use Rattle.seq_base.specs.Steps.{world_steps}
+use Rattle.seq_outside.specs.Causes.{Rose}
+use Rattle.seq_outside.specs.Store.{HasStoreCause, PutLeaves}
+use Rattle.seq_outside.specs.declared.store.StoreError.{StoreError}
+use Rattle.seq_outside.specs.declared.store.StoreError.TheVariants as store
+
+-- the header, and the content behind it
+pub pieces : (o : Object) → header_text o.kind (length o.bytes) ++ o.bytes ≡ object_text o
+pieces o = append_assoc (kind_text o.kind ++ 32 ∷ decimal (length o.bytes)) (0 ∷ []) o.bytes
+
+put_is : (w : World) (o : Object) (file : Option (List ℕ)) → map.get w (object_path (object_id o)) ≡ file → put_object w o ≡ put_at w (object_id o) (object_path (object_id o)) (object_text o) file
+unfolding put_object
+put_is w o file is = ap (put_at w (object_id o) (object_path (object_id o)) (object_text o)) is
+
+insert_there : (w : World) (path text : List ℕ) (now : World) → now ≡ map.insert w path text → map.get now path ≡ Some text
+insert_there w path text now is = ap (λ (v : World). map.get v path) is ∙ (map.get-insert nat_list_cmp_total w path text path ∙ ap (λ (t : Bool). cond t (Some text) (map.get w path)) (equal_to_itself path))
+
+-- ---- what putting answers
+
+pub put_new : (w : World) (o : Object) (id : List ℕ) (now : World) → id ≡ object_id o → length o.bytes ≤ content_limit → map.get w (object_path (object_id o)) ≡ None
+    → now ≡ map.insert w (object_path (object_id o)) (object_text o) → IsPut w o id now
+put_new w o id now id_is within absent is = record {
+  id_is = id_is;
+  within = within;
+  world = is ∙ sym (ap (λ (p : Put). p.world) (put_is w o None absent));
+  free = ap (λ (p : Put). p.collision) (put_is w o None absent);
+  file = ap (λ (i : List ℕ). map.get now (object_path i)) id_is ∙ insert_there w (object_path (object_id o)) (object_text o) now is;
+}
+
+pub put_same : (w : World) (o : Object) (id kept : List ℕ) (now : World) → id ≡ object_id o → length o.bytes ≤ content_limit → map.get w (object_path (object_id o)) ≡ Some kept → bytes_eq kept (object_text o) ≡ true → now ≡ w → IsPut w o id now
+put_same w o id kept now id_is within held equal same =
+    let is = put_is w o (Some kept) held in
+    record {
+      id_is = id_is;
+      within = within;
+      world = same ∙ sym (ap (λ (p : Put). p.world) is);
+      free = ap (λ (p : Put). p.collision) is ∙ ap (λ (t : Bool). cond t None (Some (object_id o))) equal;
+      file = ap (λ (i : List ℕ). map.get now (object_path i)) id_is ∙ (ap (λ (v : World). map.get v (object_path (object_id o))) same ∙ (held ∙ ap Some ((bytes_eq-Decides kept (object_text o)).0 equal)));
+    }
+
+pub put_kept : (w : World) (o : Object) (id kept : List ℕ) (now : World) → id ≡ object_id o → length o.bytes ≤ content_limit → map.get w (object_path (object_id o)) ≡ Some kept → bytes_eq kept (object_text o) ≡ false → now ≡ w → IsKept w o id kept now
+put_kept w o id kept now id_is within held other same = record {
+  id_is = id_is;
+  within = within;
+  held = ap (λ (i : List ℕ). map.get w (object_path i)) id_is ∙ held;
+  other = λ e. both_ways (bytes_eq kept (object_text o)) other ((bytes_eq-Decides kept (object_text o)).1 e);
+  collides = ap (λ (p : Put). p.collision) (put_is w o (Some kept) held) ∙ (ap (λ (t : Bool). cond t None (Some (object_id o))) other ∙ ap Some (sym id_is));
+  same = same;
+}
+
+pub put_other : (w : World) (o : Object) (id kept : List ℕ) (now : World) (e : ObjectFault) → IsKept w o id kept now → HasOther id kept e → HasPut w o (Err e) now
+put_other w o id kept now Missing is other = absurd other
+put_other w o id kept now (TooLarge count) is other = absurd other
+put_other w o id kept now (WrongHash wanted found) is other = (kept, subst (λ (i : List ℕ). IsKept w o i kept now) (sym other.0) is, other.1, λ e. other.2 (e ∙ other.0))
+put_other w o id kept now (BadText at) is other = absurd other
+put_other w o id kept now (Collision wanted found) is other =
+    let same : IsKept w o wanted found now = subst (λ (k : List ℕ). IsKept w o wanted k now) (sym other.1) (subst (λ (i : List ℕ). IsKept w o i kept now) (sym other.0) is) in
+    (same, ap sha1 other.1 ∙ (other.2 ∙ sym other.0))
+put_other w o id kept now Fault is other = absurd other
+put_other w o id kept now Memory is other = absurd other
+
+-- where the store's put failed
+pub put_failed : (w : World) (o : Object) (now : World) (e : StoreError) → map.get w (object_path (object_id o)) ≡ None → PutLeaves {T = Unit {0}} (Err e) w (object_path (object_id o)) (object_text o) now → HasPut w o (Err (fault_of e)) now
+put_failed w o now store.Failed absent (inl same) = inl same
+put_failed w o now store.Failed absent (inr put) = inr (put.1 ∙ sym (ap (λ (p : Put). p.world) (put_is w o None absent)))
+put_failed w o now store.Blocked absent leaves = inl leaves.1
+put_failed w o now store.Memory absent leaves = leaves
+
+-- ---- what follows of it
+
+pub put_object_at : (w : World) (o : Object) (id : List ℕ) (now : World) → IsPut w o id now → object_at now id ≡ Some o
+unfolding object_at
+put_object_at w o id now is =
+    let fits : length o.bytes < 2 ^ 64 = let low = is.within in omega arith in
+    rw is.file (object_read id (object_text o) o (record { spelled = object_written o (object_text o) fits refl; within = is.within; hash = sym is.id_is }))
+
+put_world : (w : World) (o : Object) → ((put_object w o).world ≡ w) ⊎ ((put_object w o).world ≡ map.insert w (object_path (object_id o)) (object_text o))
+put_world w o = at (map.get w (object_path (object_id o))) refl
+  where
+    at : (file : Option (List ℕ)) → map.get w (object_path (object_id o)) ≡ file → ((put_object w o).world ≡ w) ⊎ ((put_object w o).world ≡ map.insert w (object_path (object_id o)) (object_text o))
+    at None is = inr (ap (λ (p : Put). p.world) (put_is w o None is))
+    at (Some kept) is = inl (ap (λ (p : Put). p.world) (put_is w o (Some kept) is))
+
+old_or_put : (w : World) (o : Object) (now : World) → now ≡ (put_object w o).world → (now ≡ w) ⊎ (now ≡ map.insert w (object_path (object_id o)) (object_text o))
+old_or_put w o now is = elim (put_world w o) [ inl same ↦ inl (is ∙ same) | inr put ↦ inr (is ∙ put) ]
+
+old_or_new : (w : World) (o : Object) (r : Result (List ℕ) ObjectFault) (now : World) → HasPut w o r now → (now ≡ w) ⊎ (now ≡ map.insert w (object_path (object_id o)) (object_text o))
+old_or_new w o (Ok id) now is = old_or_put w o now is.world
+old_or_new w o (Err Missing) now is = absurd is
+old_or_new w o (Err (TooLarge count)) now is = inl is.same
+old_or_new w o (Err (WrongHash id found)) now is = inl is.1.same
+old_or_new w o (Err (BadText at)) now is = absurd is
+old_or_new w o (Err (Collision id kept)) now is = inl is.0.same
+old_or_new w o (Err Fault) now (inl same) = inl same
+old_or_new w o (Err Fault) now (inr put) = old_or_put w o now put
+old_or_new w o (Err Memory) now is = inl is
+
+pub put_stays : (w : World) (o : Object) (r : Result (List ℕ) ObjectFault) (now : World) → HasPut w o r now → is_file_place (parts (object_path (object_id o))) ≡ true → IsRepository w → IsRepository now
+put_stays w o r now is place repository = elim (old_or_new w o r now is) [
+  | inl same ↦ subst IsRepository (sym same) repository
+  | inr put ↦ subst IsRepository (sym put) (stays_repository_kept w (object_path (object_id o)) (object_text o) repository place)
+]
+
+pub put_elsewhere : (w : World) (o : Object) (r : Result (List ℕ) ObjectFault) (now : World) → HasPut w o r now → (other : List ℕ) → eq_by_cmp path_cmp other (object_path (object_id o)) ≡ false → map.get now other ≡ map.get w other
+put_elsewhere w o r now is other apart = elim (old_or_new w o r now is) [
+  | inl same ↦ ap (λ (v : World). map.get v other) same
+  | inr put ↦ ap (λ (v : World). map.get v other) put ∙ grind (arith, world_steps)
+]
+
+-- ---- the file that is put
+
+-- what a failed put leaves, by the names of the definition
+pub leaves_moved : (e : StoreError) (w old : World) (path at text written : List ℕ) (now : World) → old ≡ w → at ≡ path → written ≡ text → PutLeaves {T = Unit {0}} (Err e) old at written now → PutLeaves {T = Unit {0}} (Err e) w path text now
+leaves_moved e w old path at text written now same here is leaves =
+    subst (λ (t : List ℕ). PutLeaves {T = Unit {0}} (Err e) w path t now) is
+    (subst (λ (p : List ℕ). PutLeaves {T = Unit {0}} (Err e) w p written now) here (subst (λ (v : World). PutLeaves {T = Unit {0}} (Err e) v at written now) same leaves))
+
+-- the world after a put, by the names of the definition
+pub inserted : (w old : World) (path at text written : List ℕ) (now : World) → old ≡ w → at ≡ path → written ≡ text → now ≡ map.insert old at written → now ≡ map.insert w path text
+inserted w old path at text written now same here is put = put ∙ (ap (λ (v : World). map.insert v at written) same ∙ (ap (λ (p : List ℕ). map.insert w p written) here ∙ ap (map.insert w path) is))
+
+-- in a repository an object's file is not blocked
+pub fault_rose : (e : StoreError) (w : World) (path text : List ℕ) (now : World) (faults faults' blocked blocked' : ℕ) → IsRepository w → is_file_place (parts path) ≡ true → PutLeaves {T = Unit {0}} (Err e) w path text now
+    → HasStoreCause {T = Unit {0}} (Err e) faults faults' blocked blocked' → fault_of e ≡ Fault → Rose faults faults'
+fault_rose store.Failed w path text now faults faults' blocked blocked' repository place leaves cause is = cause.1
+fault_rose store.Blocked w path text now faults faults' blocked blocked' repository place leaves cause is = absurd (both_ways (is_blocked w path) (kept_is_free w path repository place) leaves.0)
+fault_rose store.Memory w path text now faults faults' blocked blocked' repository place leaves cause is = absurd cc
+
+-- ---- two pieces
+
+same_pieces : (a b c d : List ℕ) → length a ≡ length c → bytes_eq (a ++ b) (c ++ d) ≡ (bytes_eq a c && bytes_eq b d)
+same_pieces [] b [] d same = refl
+same_pieces [] b (y ∷ c) d same = absurd (omega arith)
+same_pieces (x ∷ a) b [] d same = absurd (omega arith)
+same_pieces (x ∷ a) b (y ∷ c) d same = ap (λ (t : Bool). (x == y) && t) (same_pieces a b c d (omega arith)) ∙ grouped (x == y) (bytes_eq a c) (bytes_eq b d)
+  where
+    grouped : (p q r : Bool) → (p && (q && r)) ≡ (p && q && r)
+    grouped true q r = refl
+    grouped false q r = refl
+
+-- a text of two pieces against one that is cut where the first ends
+pub same_cut : (kept header bytes front back : List ℕ) → length header ≤ length kept → front ≡ take (length header) kept → back ≡ drop (length header) kept → bytes_eq kept (header ++ bytes) ≡ (bytes_eq front header && bytes_eq back bytes)
+same_cut kept header bytes front back fits front_is back_is =
+    let whole : front ++ back ≡ kept = rw (front_is, back_is) (take-append-drop (length header) kept) in
+    let long : length front ≡ length header = ap length front_is ∙ length-take-le (length header) kept fits in
+    ap (λ (k : List ℕ). bytes_eq k (header ++ bytes)) (sym whole) ∙ same_pieces front back header bytes long

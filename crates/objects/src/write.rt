@@ -1,0 +1,100 @@
+//! Putting an object.
+
+ghost use Rattle.std.specs.FinMap as map;
+ghost use Rattle.std.specs.Ordering.{eq_by_cmp};
+ghost use Rattle.std.specs.Prelude.{◌≡◌, ◌++◌, false, IfOk, IsErrOf, List, Some, true, ℕ};
+ghost use Rattle.std.specs.Str.{bytes_eq};
+ghost use Rattle.object_text.specs.Objects.{object_text as text_of_object};
+ghost use Rattle.object_text.specs.Store.{object_at, object_id, object_path};
+ghost use Rattle.seq_base.specs.Repository.{IsRepository};
+ghost use Rattle.seq_base.specs.World.{path_cmp};
+ghost use Rattle.seq_outside.specs.Causes.{Rose};
+ghost use Rattle.sha1.specs.Sha1.{sha1};
+ghost use Rattle.objects.specs.Causes.{HasPutCause};
+ghost use Rattle.objects.specs.Puts.{HasOther, HasPut, object_of};
+
+use crate::fault::ObjectFault;
+use crate::place::{CONTENT_LIMIT, path_of};
+use crate::read::id_of_text;
+use object_text::{Kind, object_header};
+use seq_base::{Bytes, Id};
+use seq_outside::Store;
+use sha1::Sha1;
+use std::alloc::Global;
+
+/// The id of the object whose text is in two pieces.
+fn id_of_pieces(header: &[u8], bytes: &[u8]) -> Id
+    ensures { result ≡ sha1 (header.now ++ bytes.now) }
+{
+    let mut hasher = Sha1::new();
+    hasher.update(header);
+    hasher.update(bytes);
+    Id::from_bytes(hasher.finalize())
+}
+
+/// Whether the kept bytes are the two pieces, one behind the other.
+fn is_same(kept: &[u8], header: &[u8], bytes: &[u8]) -> bool
+    ensures { result ≡ bytes_eq kept.now (header.now ++ bytes.now) }
+{
+    if kept.len() < header.len() {
+        return false;
+    }
+    let (front, back) = kept.split_at(header.len());
+    front == header && back == bytes
+}
+
+/// What is answered where other bytes are kept in the file of an id.
+fn other_kept(kept: Vec<u8>, id: Id) -> ObjectFault
+    ensures { HasOther id kept.items result }
+{
+    let found = id_of_text(&kept);
+    if found != id {
+        return ObjectFault::WrongHash { id, found };
+    }
+    ObjectFault::Collision {
+        id,
+        kept: Bytes::from_vec(kept),
+    }
+}
+
+/// Puts an object into its file, and answers its id (git-hash-object(1), `-w`). An equal file is left alone. TooLarge where the
+/// content passes the limit; where other bytes stand in the file, WrongHash if they have another id, else Collision.
+pub fn put<S: Store>(
+    alloc: Global,
+    store: &mut S,
+    kind: Kind,
+    bytes: &[u8],
+) -> Result<Id, ObjectFault>
+    ensures put { S.told → HasPut (S.content store.old) (object_of kind bytes.now) result (S.content store.new) }
+
+    // They follow from `put`.
+    ensures object { S.told → IfOk result (λ id. object_at (S.content store.new) id ≡ Some (object_of kind bytes.now)) }
+    ensures elsewhere { S.told → (other : List ℕ) → eq_by_cmp path_cmp other (object_path (object_id (object_of kind bytes.now))) ≡ false → map.get (S.content store.new) other ≡ map.get (S.content store.old) other }
+    ensures stays { S.told → IsRepository (S.content store.old) → IsRepository (S.content store.new) }
+    ensures cause { HasPutCause result (S.faults store.old) (S.faults store.new) (S.blocked store.old) (S.blocked store.new) }
+    ensures repository { S.told → IsRepository (S.content store.old) → IsErrOf result ObjectFault.Fault → Rose (S.faults store.old) (S.faults store.new) }
+{
+    if bytes.len() > CONTENT_LIMIT {
+        return Err(ObjectFault::TooLarge {
+            length: bytes.len() as u64,
+        });
+    }
+    let header = object_header(alloc, kind, bytes.len())?;
+    let id = id_of_pieces(&header, bytes);
+    let path = path_of(alloc, id)?;
+    match store.get(alloc, &path)? {
+        None => {
+            let mut text = header;
+            text.extend_from_slice(bytes)?;
+            store.put(alloc, &path, &text)?;
+            Ok(id)
+        }
+        Some(kept) => {
+            if is_same(&kept, &header, bytes) {
+                Ok(id)
+            } else {
+                Err(other_kept(kept, id))
+            }
+        }
+    }
+}
