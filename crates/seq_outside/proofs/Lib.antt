@@ -1,3 +1,5 @@
 pub mod Written
 pub mod FreeWrites
 pub mod Drafts
+pub mod Keys
+pub mod Blocking
