@@ -80,7 +80,7 @@ written_elsewhere w (x ∷ xs) q none =
     written_elsewhere (after w x) xs q both.1 ∙ get_after w x q ∙ ap (λ (b : Bool). cond b (left_by x) (map.get w q)) both.0
 
 -- a write that no later one covers
-first_stays : (w : World) (x : Write) (xs : List Write) (q : List ℕ) → is_at q x ≡ true → is_written xs (path_of x) ≡ false → map.get (written (after w x) xs) q ≡ left_by x
+pub first_stays : (w : World) (x : Write) (xs : List Write) (q : List ℕ) → is_at q x ≡ true → is_written xs (path_of x) ≡ false → map.get (written (after w x) xs) q ≡ left_by x
 first_stays w x xs q here none =
     written_elsewhere (after w x) xs q (ap (is_written xs) (same_path q (path_of x) here) ∙ none) ∙ get_after w x q ∙ ap (λ (b : Bool). cond b (left_by x) (map.get w q)) here
 

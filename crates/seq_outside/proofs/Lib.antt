@@ -2,3 +2,5 @@ pub mod Firsts
 pub mod Written
 pub mod FreeWrites
 pub mod Drafts
+pub mod Keys
+pub mod Blocking

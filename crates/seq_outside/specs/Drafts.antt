@@ -1,9 +1,9 @@
 -- Drafts: changes of files that are not made yet, each path at most once.
-use Rattle.std.specs.Prelude.{◌≡◌, ◌⊎◌, ℕ, ◌<◌, Bool, true, false, if◌then◌else◌, List, [], ◌∷◌, length, slice_index_or, Option, Some, None}
+use Rattle.std.specs.Prelude.{◌≡◌, ◌⊎◌, ℕ, ◌<◌, Bool, true, false, if◌then◌else◌, ◌&&◌, ◌==◌, List, [], ◌∷◌, length, slice_index, slice_index_or, take, Option, Some, None}
 use Rattle.std.specs.FinMap as map
-use Rattle.std.specs.List.{AllByRecursion}
+use Rattle.std.specs.List.{AllByRecursion, list_any}
 use Rattle.std.specs.Ordering.{eq_by_cmp}
-use Rattle.seq_base.specs.World.{World, path_cmp}
+use Rattle.seq_base.specs.World.{World, is_below, path_cmp}
 use Rattle.seq_outside.specs.Writes.{HasStorePath, is_written, path_of, written}
 use Rattle.seq_outside.specs.declared.write.Write.{Write}
 use Rattle.seq_outside.specs.declared.write.Write.TheVariants.{Put, Remove}
@@ -30,6 +30,22 @@ pub record IsPlace (writes : List Write) (path : List ℕ) (i : ℕ) : Type 0 wh
 abbrev pub with_write : List Write → Write → List Write
 with_write [] write = write ∷ []
 with_write (x ∷ xs) write = if is_at (path_of write) x then write ∷ xs else x ∷ with_write xs write
+
+-- the write puts a file below this folder
+abbrev pub puts_below : List ℕ → Write → Bool
+puts_below folder (Put path bytes) = is_below folder path
+puts_below folder (Remove path) = false
+
+-- a folder of the path ends before this slash, and a file stands in its place
+abbrev pub is_file_before : World → List ℕ → ℕ → Bool
+is_file_before w path n = slice_index path n == 47 && map.contains_key w (take n path)
+
+-- a file stands in the place of a folder of the path; a file stands below the path
+abbrev pub has_above : World → List ℕ → Bool
+has_above w path = list_any (λ file. is_below file path) (map.keys w)
+
+abbrev pub has_below : World → List ℕ → Bool
+has_below w path = list_any (λ file. is_below path file) (map.keys w)
 
 -- each path stands once
 abbrev pub AreApart : List Write → Type 0

@@ -8,7 +8,7 @@ ghost use Rattle.seq_base.specs.Paths.{parts};
 ghost use Rattle.seq_base.specs.Repository.{IsRepository, is_file_place, is_in_place};
 ghost use Rattle.seq_base.specs.StorePaths.{IsStorePath};
 ghost use Rattle.seq_base.specs.World.{World, path_cmp};
-ghost use Rattle.seq_outside.specs.Drafts.{IsBetween, IsPlace, is_at as is_at_path, with_write};
+ghost use Rattle.seq_outside.specs.Drafts.{IsBetween, IsDraft, IsPlace, is_at as is_at_path, with_write};
 ghost use Rattle.seq_outside.specs.Store.{HasStoreCause};
 ghost use Rattle.seq_outside.specs.Writes.{HasStorePath, IsInPlace, IsKept, after, are_free, is_written, written};
 
@@ -37,7 +37,8 @@ impl Model for Draft {
     ghost invariant = { λ d. IsDraft d.writes.items };
 }
 
-fn is_at(path: &[u8], write: &Write) -> bool
+/// Whether the write changes this file.
+pub fn is_at(path: &[u8], write: &Write) -> bool
     ensures { result ≡ is_at_path path.now write.now }
 {
     path.cmp(write.path()) == Ordering::Equal
@@ -76,6 +77,14 @@ impl Draft {
         Draft {
             writes: Vec::new(alloc),
         }
+    }
+
+    /// The changes, in the order in which they are made.
+    pub fn writes(&self) -> &[Write]
+        ensures writes { result.now ≡ self.now }
+        ensures draft { IsDraft self.now }
+    {
+        &self.writes
     }
 
     /// The file's bytes once the draft is made, and None exactly where there is no file then.

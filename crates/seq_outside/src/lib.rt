@@ -6,6 +6,7 @@ mod child;
 mod clock;
 mod draft;
 mod env;
+mod free;
 mod sink;
 mod store;
 mod write;
