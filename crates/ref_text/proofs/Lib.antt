@@ -1,2 +1,4 @@
 pub mod Written
 pub mod HeadLaws
+pub mod PackedTexts
+pub mod RefLaws
