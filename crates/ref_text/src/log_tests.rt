@@ -1,5 +1,5 @@
 use crate::fault::LineFault;
-use crate::log::{LogLine, log_text};
+use crate::log::LogLine;
 use crate::read_log::parse_log;
 use seq_base::{Bytes, Id};
 use std::alloc::Global;
@@ -88,17 +88,4 @@ fn bad_lines_of_a_log_are_told(rt: HostRuntime) {
             Err(e) => assert!(rt; e == LineFault::Bad { line }),
         }
     }
-}
-
-#[test]
-fn a_line_is_written_as_git_writes_it(rt: HostRuntime) -> Result<(), Fail> {
-    let line = line_of(
-        rt.alloc(),
-        None,
-        b"7A140ACC37E4AB8EEEA8E633D9BB4C93B8AC8CA7",
-        b"commit (initial): first",
-    )?;
-    let text = log_text(rt.alloc(), &line)?;
-    assert!(rt; text.as_slice() == &LOG[..158]);
-    Ok(())
 }
