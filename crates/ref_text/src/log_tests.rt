@@ -1,6 +1,7 @@
 use crate::fault::LineFault;
-use crate::log::LogLine;
+use crate::log::{LogLine, log_text};
 use crate::read_log::parse_log;
+use ident_text::parse_ident;
 use seq_base::{Bytes, Id};
 use std::alloc::Global;
 use std::test::Fail;
@@ -88,4 +89,22 @@ fn bad_lines_of_a_log_are_told(rt: HostRuntime) {
             Err(e) => assert!(rt; e == LineFault::Bad { line }),
         }
     }
+}
+
+#[test]
+fn a_line_is_written_as_git_writes_it(rt: HostRuntime) -> Result<(), Fail> {
+    let who = parse_ident(rt.alloc(), WHO)?;
+    assert!(rt; who.secs == 1_112_911_993);
+    let new = Id::from_hex(b"7A140ACC37E4AB8EEEA8E633D9BB4C93B8AC8CA7")?;
+    let ident = Vec::from_slice(rt.alloc(), WHO)?;
+    let message = Vec::from_slice(rt.alloc(), b"commit (initial): first")?;
+    let line = LogLine {
+        old: None,
+        new,
+        ident: Bytes::from_vec(ident),
+        message: Bytes::from_vec(message),
+    };
+    let text = log_text(rt.alloc(), &line)?;
+    assert!(rt; text.as_slice() == &LOG[..158]);
+    Ok(())
 }
