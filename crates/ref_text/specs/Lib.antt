@@ -3,3 +3,4 @@ pub mod Packed
 pub mod Logs
 pub mod Faults
 pub mod Refs
+pub mod ReadLogs

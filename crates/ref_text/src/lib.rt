@@ -3,8 +3,16 @@
 
 mod fault;
 mod head;
+pub mod laws;
 mod log;
+mod packed;
+mod read_log;
 
 pub use fault::{HeadFault, LineFault};
 pub use head::{Head, head_text, parse_head};
 pub use log::{LogLine, log_text};
+pub use packed::packed_text;
+pub use read_log::parse_log;
+
+#[cfg(test)]
+mod log_tests;

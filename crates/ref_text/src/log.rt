@@ -19,7 +19,7 @@ pub struct LogLine {
     pub message: Bytes,
 }
 
-const NO_VALUE: &[u8; 40] = b"0000000000000000000000000000000000000000";
+pub const NO_VALUE: &[u8; 40] = b"0000000000000000000000000000000000000000";
 
 /// The digits of the old value, or forty zeros.
 #[tactic(auto, using(crate::proofs::Written::old_spells))]

@@ -1,0 +1,56 @@
+//! The packed refs.
+
+ghost use Rattle.std.specs.Prelude.{◌≡◌, ◌∷◌, ◌++◌, [], IfOk, length};
+ghost use Rattle.hex.specs.Hex.{IsBytes, encode_lower};
+ghost use Rattle.ref_text.specs.Packed.{ArePackedNames, IsPacked, packed_text as text_of_refs};
+
+use seq_base::{Bytes, Id};
+use std::alloc::{AllocError, Global};
+
+fn put_line(out: &mut Vec<u8>, alloc: Global, name: &[u8], id: &Id) -> Result<(), AllocError>
+    ensures text { IfOk result (λ _. out.new.items ≡ out.old.items ++ (encode_lower id.now ++ 32 ∷ name.now ++ 10 ∷ [])) }
+    ensures id { IfOk result (λ _. IsBytes id.now × (length id.now ≡ 20)) }
+{
+    let digits = id.hex(alloc)?;
+    out.extend_from_slice(digits.as_slice())?;
+    out.push(b' ')?;
+    out.extend_from_slice(name)?;
+    out.push(b'\n')?;
+    Ok(())
+}
+
+/// The file of these refs: for each `<hex> SP <name> LF`, with digits in lower case (git-pack-refs(1)). Each has the name of a ref.
+#[tactic(auto, using(crate::proofs::PackedTexts::written_spells))]
+pub fn packed_text(alloc: Global, refs: &[(Bytes, Id)]) -> Result<Vec<u8>, AllocError>
+    requires { ArePackedNames refs.now }
+    ensures text { IfOk result (λ text. text.items ≡ text_of_refs refs.now) }
+    ensures spells { IfOk result (λ text. IsPacked refs.now text.items) }
+{
+    let mut out = Vec::new(alloc);
+    for (name, id) in refs {
+        put_line(&mut out, alloc, name.as_slice(), id)?;
+    }
+    Ok(out)
+}
+
+#[cfg(test)]
+mod tests {
+    use super::*;
+    use seq_base::is_ref_name;
+    use std::test::Fail;
+
+    // As `git pack-refs --all` wrote them behind its first line.
+    #[test]
+    fn refs_are_written_as_git_writes_them(rt: HostRuntime) -> Result<(), Fail> {
+        let name = Vec::from_slice(rt.alloc(), b"refs/heads/master")?;
+        assert!(rt; is_ref_name(name.as_slice()));
+        let id = Id::from_hex(b"7A140ACC37E4AB8EEEA8E633D9BB4C93B8AC8CA7")?;
+        let refs = [(Bytes::from_vec(name), id)];
+        let text = packed_text(rt.alloc(), &refs)?;
+        assert!(rt;
+            text.as_slice()
+                == b"7a140acc37e4ab8eeea8e633d9bb4c93b8ac8ca7 refs/heads/master\n".as_slice()
+        );
+        Ok(())
+    }
+}
