@@ -1,0 +1,4 @@
+pub mod Keys
+pub mod Obstacles
+pub mod SwitchLists
+pub mod ReadBlobs
