@@ -2,3 +2,4 @@ pub mod Keys
 pub mod Obstacles
 pub mod SwitchLists
 pub mod ReadBlobs
+pub mod Placing

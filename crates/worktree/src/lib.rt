@@ -11,3 +11,6 @@ mod writes;
 pub use changed::first_change;
 pub use fault::WorkFault;
 pub use writes::switch_writes;
+
+#[cfg(test)]
+mod tests;

@@ -4,10 +4,14 @@ ghost use Rattle.std.specs.Prelude.{◌≡◌, ◌<◌, ◌^◌, ◌++◌, ◌�
 ghost use Rattle.index_file.specs.Entries.{IsInOrder, IsIndex};
 ghost use Rattle.index_file.specs.Spelling.{index_text as text_of_index};
 ghost use Rattle.seq_base.specs.PathMaps.{entry_at};
+ghost use Rattle.seq_base.specs.Paths.{IsPath};
+ghost use Rattle.seq_outside.specs.Writes.{HasStorePath, IsInPlace};
+ghost use Rattle.std.specs.List.{AllByRecursion};
 ghost use Rattle.stage_index.specs.Stages.{map_of, row_of};
 ghost use Rattle.stage_index.specs.Switching.{blob_writes, is_rewritten as is_rewritten_in, removals, switch_writes as writes_of};
 ghost use Rattle.worktree.specs.Blobs.{Appends, GivesWrites};
 ghost use Rattle.worktree.specs.Causes.{HasCause};
+ghost use Rattle.worktree.specs.Placed.{ArePlaced};
 
 use crate::blob::read_blob;
 use crate::fault::WorkFault;
@@ -20,7 +24,8 @@ use stage_index::{from_map, tracked};
 use std::alloc::{AllocError, Global};
 
 fn bytes_of(alloc: Global, path: &Path) -> Result<Bytes, AllocError>
-    ensures { IfOk result (λ bytes. bytes ≡ path.now) }
+    ensures same { IfOk result (λ bytes. bytes ≡ path.now) }
+    ensures path { IfOk result (λ bytes. IsPath bytes) }
 {
     Ok(Bytes::from_vec(Vec::from_slice(alloc, path.bytes())?))
 }
@@ -36,6 +41,7 @@ fn lacks(index: &[IndexEntry], path: &[u8]) -> bool
     }
 }
 
+#[tactic(auto, using(crate::proofs::Placing::placed_more))]
 /// Removes the entry's path, if it is tracked no longer.
 fn push_removal(
     alloc: Global,
@@ -44,7 +50,8 @@ fn push_removal(
     writes: &mut Vec<Write>,
 ) -> Result<(), AllocError>
     requires { IsInOrder to.now }
-    ensures { OnOk result (writes.new.items ≡ writes.old.items ++ removals (entry.now ∷ []) (map_of to.now)) }
+    ensures pushed { OnOk result (writes.new.items ≡ writes.old.items ++ removals (entry.now ∷ []) (map_of to.now)) }
+    ensures placed { OnOk result (ArePlaced writes.old.items → ArePlaced writes.new.items) }
 {
     if !lacks(to, entry.path.bytes()) {
         return Ok(());
@@ -61,7 +68,8 @@ fn push_removals(
     writes: &mut Vec<Write>,
 ) -> Result<(), AllocError>
     requires { IsInOrder to.now }
-    ensures { OnOk result (writes.new.items ≡ writes.old.items ++ removals from.now (map_of to.now)) }
+    ensures pushed { OnOk result (writes.new.items ≡ writes.old.items ++ removals from.now (map_of to.now)) }
+    ensures placed { OnOk result (ArePlaced writes.old.items → ArePlaced writes.new.items) }
 {
     let mut rest = from;
     while let [entry, after @ ..] = rest {
@@ -80,6 +88,7 @@ fn index_write(alloc: Global, to: &[IndexEntry]) -> Result<Write, AllocError>
     Ok(Write::Put { path, bytes })
 }
 
+#[tactic(auto, using(crate::proofs::Placing::placed_more))]
 /// Puts the entry's blob, if it is written.
 fn push_blob<S: Store>(
     alloc: Global,
@@ -90,6 +99,7 @@ fn push_blob<S: Store>(
 ) -> Result<(), WorkFault>
     requires { IsInOrder from.now }
     ensures told { S.told → Appends result writes.old.items writes.new.items (S.content store.old) (blob_writes (S.content store.old) (filter (is_rewritten_in from.now) (row_of entry.now ∷ []))) }
+    ensures placed { OnOk result (ArePlaced writes.old.items → ArePlaced writes.new.items) }
     ensures same { S.told → S.content store.new ≡ S.content store.old }
     ensures cause { HasCause result (S.faults store.old) (S.faults store.new) (S.blocked store.old) (S.blocked store.new) }
 {
@@ -112,6 +122,7 @@ fn push_blobs<S: Store>(
 ) -> Result<(), WorkFault>
     requires { IsInOrder from.now }
     ensures told { S.told → Appends result writes.old.items writes.new.items (S.content store.old) (blob_writes (S.content store.old) (filter (is_rewritten_in from.now) (map row_of to.now))) }
+    ensures placed { OnOk result (ArePlaced writes.old.items → ArePlaced writes.new.items) }
     ensures same { S.told → S.content store.new ≡ S.content store.old }
     ensures cause { HasCause result (S.faults store.old) (S.faults store.new) (S.blocked store.old) (S.blocked store.new) }
 {
@@ -136,6 +147,11 @@ pub fn switch_writes<S: Store>(
     requires order { IsInOrder from.now }
     requires few { length to.now < 2 ^ 32 }
     ensures gives { S.told → GivesWrites (λ writes. writes.items) result (S.content store.old) (writes_of (S.content store.old) from.now to.now) }
+    ensures placed { IfOk result (λ writes. ArePlaced writes.items) }
+
+    // They follow from `placed`, and a call of `write_all` asks for them.
+    ensures store_paths { IfOk result (λ writes. AllByRecursion HasStorePath writes.items) }
+    ensures in_place { IfOk result (λ writes. AllByRecursion IsInPlace writes.items) }
     ensures same { S.told → S.content store.new ≡ S.content store.old }
     ensures cause { HasCause result (S.faults store.old) (S.faults store.new) (S.blocked store.old) (S.blocked store.new) }
 {

@@ -15,4 +15,4 @@ returns-in_err-bytes-clause-told g c told =
 pub returns-clause-told : goal.returns-clause-told
 returns-clause-told g c told =
     one_written _ c.args.from.now c.args.entry.now c.in_ok-bytes.bytes c.args.writes.now.items c.push.new.self.items (sym c.is_rewritten.ensures ∙ c.if-not-is_rewritten.false) (c.in_ok-bytes.ensures.gives told)
-    (c.in_ok-push.ensures.items ∙ ap (λ (p : List ℕ). c.args.writes.now.items ++ Put p c.in_ok-bytes.bytes ∷ []) c.in_ok-path.ensures)
+    (c.in_ok-push.ensures.items ∙ ap (λ (p : List ℕ). c.args.writes.now.items ++ Put p c.in_ok-bytes.bytes ∷ []) c.in_ok-path.ensures.same)

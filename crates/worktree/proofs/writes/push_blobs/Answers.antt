@@ -23,6 +23,7 @@ loop-rest-preserved g c =
       made = λ told.
           let pushed = subst (λ (v : World). Pushed v c.args.from.now c.entry-item.result c.loop-rest.writes.items c.push_blob.new.writes.items) (c.loop-rest.invariant.same told) (c.in_ok-push_blob.ensures.told told) in
           blobs_more w c.args.from.now c.args.to.now c.loop-rest.rest.now c.args.writes.now.items c.loop-rest.writes.items c.push_blob.new.writes.items c.entry-item.result (c.loop-rest.invariant.made told) some c.entry-item.is pushed;
+      placed = λ h. c.in_ok-push_blob.ensures.placed (c.loop-rest.invariant.placed h);
       same = λ told. c.in_ok-push_blob.ensures.same told ∙ c.loop-rest.invariant.same told;
       faults = search rules;
       blocked = search rules;
