@@ -3,3 +3,5 @@ pub mod Obstacles
 pub mod SwitchLists
 pub mod ReadBlobs
 pub mod Placing
+pub mod NoneLeast
+pub mod Unblocked

@@ -22,7 +22,7 @@ store_path : (x : Write) → IsPlaced x → HasStorePath x
 store_path x (inl index) = subst (λ (p : List ℕ). IsStorePath p) (sym index) refl
 store_path x (inr path) = path_is_store_path (path_of x) path
 
-in_place : (x : Write) → IsPlaced x → IsInPlace x
+pub in_place : (x : Write) → IsPlaced x → IsInPlace x
 in_place x (inl index) = subst (λ (p : List ℕ). is_in_place p ≡ true) (sym index) (place_in_place (codes ".git/index") refl)
 in_place x (inr path) = path_in_place (path_of x) path
 

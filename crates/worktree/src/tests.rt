@@ -5,12 +5,30 @@ ghost use Rattle.std.specs.Prelude.{◌≡◌, IfOk};
 use super::*;
 use seq_base::{Bytes, Entry, Id, Mode, Path, PathMap};
 use seq_memory::{QuietStore, is_content};
+use seq_outside::{Write, write_all};
 use stage_index::from_map;
 use std::alloc::Global;
 use std::test::Fail;
 
 const HELLO: &[u8] = b"ce013625030ba8dba906f756967f9e9ca394464a";
+
 const EMPTY: &[u8] = b"e69de29bb2d1d6434b8b29ae775ad8c2e48c5391";
+
+const HELLO_FILE: &[u8] = b".git/objects/ce/013625030ba8dba906f756967f9e9ca394464a";
+
+const EMPTY_FILE: &[u8] = b".git/objects/e6/9de29bb2d1d6434b8b29ae775ad8c2e48c5391";
+
+// `git ls-files -s`: 100644 ce01.. a and 100755 e69d.. d/n.
+const INDEX: [u8; 168] = [
+    0x44, 0x49, 0x52, 0x43, 0, 0, 0, 2, 0, 0, 0, 2, 0, 0, 0, 0, 0, 0, 0, 0, 0, 0, 0, 0, 0, 0, 0, 0,
+    0, 0, 0, 0, 0, 0, 0, 0, 0, 0, 0x81, 0xa4, 0, 0, 0, 0, 0, 0, 0, 0, 0, 0, 0, 0, 0xce, 1, 0x36,
+    0x25, 3, 0xb, 0xa8, 0xdb, 0xa9, 6, 0xf7, 0x56, 0x96, 0x7f, 0x9e, 0x9c, 0xa3, 0x94, 0x46, 0x4a,
+    0, 1, 0x61, 0, 0, 0, 0, 0, 0, 0, 0, 0, 0, 0, 0, 0, 0, 0, 0, 0, 0, 0, 0, 0, 0, 0, 0, 0, 0, 0,
+    0x81, 0xed, 0, 0, 0, 0, 0, 0, 0, 0, 0, 0, 0, 0, 0xe6, 0x9d, 0xe2, 0x9b, 0xb2, 0xd1, 0xd6, 0x43,
+    0x4b, 0x8b, 0x29, 0xae, 0x77, 0x5a, 0xd8, 0xc2, 0xe4, 0x8c, 0x53, 0x91, 0, 3, 0x64, 0x2f, 0x6e,
+    0, 0, 0, 0, 0, 0, 0, 0x18, 0x2a, 0xc3, 0x85, 0x37, 0xdc, 0x9d, 0x34, 0xd5, 0x46, 0x78, 0x40,
+    0x51, 0xf2, 0xf6, 0xb, 0x5c, 0xc1, 0x83, 0x2b,
+];
 
 fn store(alloc: Global, rows: &[(&[u8], &[u8])]) -> Result<QuietStore, Fail> {
     let mut files = Vec::new(alloc);
@@ -61,5 +79,86 @@ fn the_least_changed_path_is_found(rt: HostRuntime) -> Result<(), Fail> {
     assert!(rt; is_path(first_change(alloc, &mut missing, &index), b"d/n"));
     let mut other = store(alloc, &[(b"a", b"hello"), (b"d/n", b"x")])?;
     assert!(rt; is_path(first_change(alloc, &mut other, &index), b"a"));
+    Ok(())
+}
+
+fn puts(write: &Write, path: &[u8], bytes: &[u8]) -> bool {
+    match write {
+        Write::Put {
+            path: at,
+            bytes: found,
+        } => at.as_slice() == path && found.as_slice() == bytes,
+        Write::Remove { .. } => false,
+    }
+}
+
+fn removes(write: &Write, path: &[u8]) -> bool {
+    match write {
+        Write::Put { .. } => false,
+        Write::Remove { path: at } => at.as_slice() == path,
+    }
+}
+
+fn to_map(alloc: Global) -> Result<PathMap, Fail> {
+    let mut to = file_map(alloc, &[(b"a", HELLO)])?;
+    to.insert(Path::new(alloc, b"d/n")?, entry(Mode::Exec, EMPTY)?)?;
+    Ok(to)
+}
+
+// `git read-tree -m -u` from the tree of `d` and `a` to that of `a` and `d/n` removes the file `d` first.
+#[test]
+fn a_switch_removes_then_writes_index_and_files(rt: HostRuntime) -> Result<(), Fail> {
+    let alloc = rt.alloc();
+    let from = from_map(alloc, &file_map(alloc, &[(b"a", HELLO), (b"d", HELLO)])?)?;
+    let to = to_map(alloc)?;
+    let mut store = store(
+        alloc,
+        &[
+            (HELLO_FILE, b"blob 6\0hello\n"),
+            (EMPTY_FILE, b"blob 0\0"),
+            (b"a", b"hello\n"),
+            (b"d", b"hello\n"),
+        ],
+    )?;
+    let writes = switch_writes(alloc, &mut store, &from, &to)?;
+    assert_eq!(rt; writes.len(), 3);
+    assert!(rt; removes(&writes[0], b"d"));
+    assert!(rt; puts(&writes[1], b".git/index", INDEX.as_slice()));
+    assert!(rt; puts(&writes[2], b"d/n", b""));
+    assert!(rt; write_all(alloc, &mut store, &writes) == Ok(()));
+    assert_eq!(rt; store.content().len(), 5);
+    Ok(())
+}
+
+// `git switch` says 'The following untracked working tree files would be overwritten', and names the least first.
+#[test]
+fn untracked_files_in_the_way_are_told(rt: HostRuntime) -> Result<(), Fail> {
+    let alloc = rt.alloc();
+    let from = from_map(alloc, &file_map(alloc, &[(b"a", EMPTY)])?)?;
+    let to = to_map(alloc)?;
+    let files: [&[u8]; 3] = [b"d", b"d/n", b"d/n/x"];
+    for file in files {
+        let mut store = store(alloc, &[(HELLO_FILE, b"blob 6\0hello\n"), (file, b"mine")])?;
+        match switch_writes(alloc, &mut store, &from, &to) {
+            Err(WorkFault::WouldOverwrite { path }) => assert!(rt;
+                path.bytes() == b"d/n".as_slice()
+            ),
+            _ => assert!(rt; false),
+        }
+    }
+    Ok(())
+}
+
+// `git cat-file blob` of an object that is not there, and of one of another kind.
+#[test]
+fn a_blob_that_cannot_be_read_is_told(rt: HostRuntime) -> Result<(), Fail> {
+    let alloc = rt.alloc();
+    let from = from_map(alloc, &file_map(alloc, &[(b"a", HELLO)])?)?;
+    let to = to_map(alloc)?;
+    let mut store = store(alloc, &[(EMPTY_FILE, b"tree 0\0")])?;
+    match switch_writes(alloc, &mut store, &from, &to) {
+        Err(WorkFault::BadObject { id }) => assert!(rt; Id::from_hex(EMPTY) == Ok(id)),
+        _ => assert!(rt; false),
+    }
     Ok(())
 }

@@ -11,7 +11,7 @@ ghost use Rattle.stage_index.specs.Stages.{map_of, row_of};
 ghost use Rattle.stage_index.specs.Switching.{blob_writes, is_rewritten as is_rewritten_in, removals, switch_writes as writes_of};
 ghost use Rattle.worktree.specs.Blobs.{Appends, GivesWrites};
 ghost use Rattle.worktree.specs.Causes.{HasCause};
-ghost use Rattle.worktree.specs.Placed.{ArePlaced};
+ghost use Rattle.worktree.specs.Placed.{ArePlaced, AreUnblocked};
 
 use crate::blob::read_blob;
 use crate::fault::WorkFault;
@@ -152,9 +152,11 @@ pub fn switch_writes<S: Store>(
     // They follow from `placed`, and a call of `write_all` asks for them.
     ensures store_paths { IfOk result (λ writes. AllByRecursion HasStorePath writes.items) }
     ensures in_place { IfOk result (λ writes. AllByRecursion IsInPlace writes.items) }
+    ensures free { S.told → IfOk result (λ writes. AreUnblocked (S.content store.old) writes.items) }
     ensures same { S.told → S.content store.new ≡ S.content store.old }
     ensures cause { HasCause result (S.faults store.old) (S.faults store.new) (S.blocked store.old) (S.blocked store.new) }
 {
+    let _length = to.len();
     let index = from_map(alloc, to)?;
     if let Some(path) = first_obstructed(alloc, store, from, &index)? {
         return Err(WorkFault::WouldOverwrite { path });

@@ -10,6 +10,7 @@ use Rattle.stage_index.specs.Switching.{blob_writes, is_rewritten}
 use Rattle.worktree.specs.Blobs.{Refuses}
 use Rattle.worktree.proofs.SwitchLists.{all_writes, found_in, gathered, obstructed_switch, refused_switch, rows_in}
 use Rattle.worktree.proofs.Placing.{are_in_place, have_store_paths, placed_more}
+use Rattle.worktree.proofs.Unblocked.{switch_free}
 use Rattle.worktree.proofs.writes.switch_writes.Goals as goal
 use Rattle.worktree.proofs.writes.switch_writes.Goals.{After-drop-index-2}
 
@@ -54,3 +55,18 @@ returns-clause-store_paths g c = have_store_paths c.push_blobs.new.writes.items 
 
 pub returns-clause-in_place : goal.returns-clause-in_place
 returns-clause-in_place g c = are_in_place c.push_blobs.new.writes.items (placed g c)
+
+pub returns-clause-free : goal.returns-clause-free
+returns-clause-free g c told now repository same =
+    let w = g.S.Store.content c.args.store.now in
+    let from = c.args.from.now in
+    let to = c.args.to.now in
+    let items = c.in_ok-index.index.items in
+    let is = c.in_ok-index.ensures.indexed in
+    let none = found_in w from to items _ _ is (sym c.deref.ensures.value) (c.in_ok-path.ensures.found told) ∙ c.in_default.is in
+    let pushed = c.in_ok-push_blobs.ensures.told told in
+    let rows = rows_in to items c.deref-4.result.now is (sym c.deref-4.ensures.value) in
+    let blobs = ap (λ (es : Entries). blob_writes w (filter (is_rewritten from) es)) (sym rows) ∙ ap (λ (v : World). blob_writes v (filter (is_rewritten from) (map row_of c.deref-4.result.now))) (sym (c.in_ok-path.ensures.same told)) ∙ pushed.1 in
+    let all = gathered from to items c.deref-2.result.now c.deref-3.result.now c.new-writes.result.items c.push_removals.new.writes.items c.push.new.self.items c.push_blobs.new.writes.items pushed.0 c.in_ok-index_write.field-0
+    is c.in_ok-index.ensures.map (sym c.deref-2.ensures.value) (sym c.deref-3.ensures.value) c.new-writes.ensures.items c.in_ok-push_removals.ensures.pushed c.in_ok-index_write.ensures c.in_ok-push.ensures.items pushed.2 in
+    switch_free w now from to pushed.0 c.push_blobs.new.writes.items c.len-length.ensures.map none blobs all (placed g c) repository same
