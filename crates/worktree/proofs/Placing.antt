@@ -1,8 +1,7 @@
 -- Writes of index and files have their place in a repository.
-use Rattle.std.proofs.Common.{◌≡◌, ◌⊎◌, inl, inr, ℕ, true, List, [], ◌∷◌, ◌++◌, refl, sym, subst}
+use Rattle.std.proofs.Common.{◌≡◌, inl, inr, ℕ, true, List, [], ◌∷◌, ◌++◌, refl, sym, subst}
 use Rattle.std.specs.Prelude.{codes}
 use Rattle.std.specs.List.{AllByRecursion}
-use Rattle.seq_base.specs.Paths.{IsPath}
 use Rattle.seq_base.specs.Repository.{is_in_place}
 use Rattle.seq_base.specs.StorePaths.{IsStorePath}
 use Rattle.seq_base.proofs.Places.{path_in_place, place_in_place}

@@ -1,13 +1,13 @@
 -- The writes of a switch are not blocked: nothing stands in the way of a path that is written.
-use Rattle.std.proofs.Common.{◌≡◌, ◌⊎◌, inl, inr, ℕ, zero, suc, ◌<◌, ◌≤◌, Bool, true, false, not, ◌&&◌, ◌||◌, cond, List, [], ◌∷◌, ◌++◌, length, Option, Some, None, Result, Ok, Err, refl, sym, ap, subst, ◌∙◌, arith}
-use Rattle.std.specs.Prelude.{Contains, codes, filter, is_none, is_some, map as map_list, slice_index_or}
+use Rattle.std.proofs.Common.{◌≡◌, ◌⊎◌, inl, inr, ℕ, ◌<◌, Bool, true, false, not, ◌&&◌, ◌||◌, cond, List, [], ◌∷◌, ◌++◌, length, Option, Some, None, Result, Ok, Err, refl, sym, ap, subst, ◌∙◌, arith}
+use Rattle.std.specs.Prelude.{Contains, codes, filter, is_none, is_some, map as map_list}
 use Rattle.std.specs.FinMap as map
 use Rattle.std.specs.FinMap.{get-remove}
 use Rattle.std.specs.Cmp.Lexicographic.{nat_list_cmp_total}
 use Rattle.std.specs.List.{AllByRecursion, list_any}
 use Rattle.std.specs.Ordering.{eq_by_cmp}
 use Rattle.std.specs.Str.{bytes_eq}
-use Rattle.std.proofs.lemmas.Bool.{and_from, and_parts, both_ways, cases_Bool, false_from_ne_true, not_from_false, or_parts}
+use Rattle.std.proofs.lemmas.Bool.{and_from, both_ways, cases_Bool, false_from_ne_true, not_from_false, or_parts}
 use Rattle.std.proofs.lemmas.List.Elements.{All-contains_itself, All-weaker, recursion_from_All}
 use Rattle.std.proofs.lemmas.Slice.Eq.{bytes_eq-Decides}
 use Rattle.seq_base.specs.declared.map.Entry.{Entry}
@@ -20,16 +20,16 @@ use Rattle.seq_base.proofs.Lookups.{held}
 use Rattle.seq_base.proofs.Places.{parts-behind, some_part}
 use Rattle.seq_base.proofs.PlainParts.{path_parts}
 use Rattle.seq_base.proofs.Repositories.{kept_is_free, removed_repository, stays_repository, stays_repository_kept}
-use Rattle.seq_base.proofs.Shape.{after, equal_to_itself, free_from, same_path, there_after_remove}
+use Rattle.seq_base.proofs.Shape.{after, equal_to_itself, free_from, there_after_remove}
 use Rattle.seq_outside.specs.declared.write.Write.{Write}
 use Rattle.seq_outside.specs.declared.write.Write.TheVariants.{Put, Remove}
-use Rattle.seq_outside.specs.Writes.{are_free, path_of, written}
+use Rattle.seq_outside.specs.Writes.{are_free, written}
 use Rattle.index_file.specs.declared.entry.IndexEntry.{IndexEntry}
 use Rattle.index_file.specs.Index.{indexed}
 use Rattle.index_file.specs.Spelling.{index_text}
 use Rattle.stage_index.specs.Stages.{Entries}
 use Rattle.stage_index.specs.Switching.{SwitchFault, ◌>>=◌, blob_at, blob_writes, first_obstructed, index_write, is_in_way, is_obstructed, is_rewritten, is_tracked, is_untracked, or_no_blob, removals}
-use Rattle.worktree.specs.Placed.{ArePlaced, HasSameFiles, IsPlaced}
+use Rattle.worktree.specs.Placed.{ArePlaced, HasSameFiles}
 use Rattle.worktree.proofs.Keys.{any_of}
 use Rattle.worktree.proofs.NoneLeast.{none_obstructed}
 use Rattle.worktree.proofs.Placing.{in_place}
@@ -127,17 +127,21 @@ keeps_tracked (e ∷ es) to now file there = at (λ v h. keeps_tracked es to v f
     at : ((v : World) → map.contains_key (written v (removals es to)) file ≡ true → (map.contains_key v file ≡ true) × (is_tracked es file ≡ true → is_none (entry_at to file) ≡ false)) → (t : Bool) → is_none (entry_at to e.path) ≡ t
         → map.contains_key (written now (map_list (λ d. Remove d.path) (cond t (e ∷ others) others))) file ≡ true → (map.contains_key now file ≡ true) × (bytes_eq e.path file || is_tracked es file ≡ true → is_none (entry_at to file) ≡ false)
     at rest true gone h =
-        let k = rest (map.remove now e.path) h in
-        (there_after_remove now e.path file k.0, λ tracked. elim (either (bytes_eq e.path file) (is_tracked es file) tracked) [
-          | inl same ↦ let p : e.path ≡ file = (bytes_eq-Decides e.path file).0 same in absurd (not_there now e.path (subst (λ (q : List ℕ). map.contains_key (map.remove now e.path) q ≡ true) (sym p) k.0))
-          | inr later ↦ k.1 later
-        ])
+        let k = rest (map.remove now e.path) h in (
+          there_after_remove now e.path file k.0,
+          λ tracked. elim (either (bytes_eq e.path file) (is_tracked es file) tracked) [
+            | inl same ↦ let p : e.path ≡ file = (bytes_eq-Decides e.path file).0 same in absurd (not_there now e.path (subst (λ (q : List ℕ). map.contains_key (map.remove now e.path) q ≡ true) (sym p) k.0))
+            | inr later ↦ k.1 later
+          ],
+        )
     at rest false stays h =
-        let k = rest now h in
-        (k.0, λ tracked. elim (either (bytes_eq e.path file) (is_tracked es file) tracked) [
-          | inl same ↦ sym (ap (λ (q : List ℕ). is_none (entry_at to q)) ((bytes_eq-Decides e.path file).0 same)) ∙ stays
-          | inr later ↦ k.1 later
-        ])
+        let k = rest now h in (
+          k.0,
+          λ tracked. elim (either (bytes_eq e.path file) (is_tracked es file) tracked) [
+            | inl same ↦ sym (ap (λ (q : List ℕ). is_none (entry_at to q)) ((bytes_eq-Decides e.path file).0 same)) ∙ stays
+            | inr later ↦ k.1 later
+          ],
+        )
 
 removed_all : (es : List IndexEntry) (now : World) → IsRepository now → IsRepository (written now (map_list (λ d. Remove d.path) es))
 removed_all [] now repository = repository
@@ -256,7 +260,7 @@ switch_free w now from to blobs all map_is none made is placed repository same =
     let blobs_placed = (placed_behind (removals from to) (index_write to ∷ blobs) (subst ArePlaced (sym is) placed)).1 in
     subst (λ (ws : List Write). are_free now ws ≡ true) is
     (
-        free_removals gone now (index_write to ∷ blobs)
-        ∙ and_from (not (is_blocked v (codes ".git/index"))) (are_free (map.insert v (codes ".git/index") index) blobs) (not_from_false _ free)
-        (blobs_free w from to map_is.apart (filter (is_rewritten from) to) (map.insert v (codes ".git/index") index) blobs (stays_repository_kept v (codes ".git/index") index still refl) (covered_start w from to map_is.apart now index same)
-        (written_clear w from to map_is.apart to (none_obstructed w from to none) inside) made blobs_placed))
+    free_removals gone now (index_write to ∷ blobs)
+    ∙ and_from (not (is_blocked v (codes ".git/index"))) (are_free (map.insert v (codes ".git/index") index) blobs) (not_from_false _ free)
+    (blobs_free w from to map_is.apart (filter (is_rewritten from) to) (map.insert v (codes ".git/index") index) blobs (stays_repository_kept v (codes ".git/index") index still refl) (covered_start w from to map_is.apart now index same)
+    (written_clear w from to map_is.apart to (none_obstructed w from to none) inside) made blobs_placed))

@@ -1,6 +1,6 @@
 //! Against what Git answers: ids by `git hash-object`, the index by `git update-index --cacheinfo`.
 
-ghost use Rattle.std.specs.Prelude.{◌≡◌, IfOk};
+ghost use Rattle.std.specs.Prelude.{◌≡◌, ◌<◌, ◌^◌, IfOk, length};
 
 use super::*;
 use seq_base::{Bytes, Entry, Id, Mode, Path, PathMap};
@@ -111,6 +111,7 @@ fn a_switch_removes_then_writes_index_and_files(rt: HostRuntime) -> Result<(), F
     let alloc = rt.alloc();
     let from = from_map(alloc, &file_map(alloc, &[(b"a", HELLO), (b"d", HELLO)])?)?;
     let to = to_map(alloc)?;
+    assert_eq!(rt; to.len(), 2);
     let mut store = store(
         alloc,
         &[
@@ -130,35 +131,58 @@ fn a_switch_removes_then_writes_index_and_files(rt: HostRuntime) -> Result<(), F
     Ok(())
 }
 
+fn is_obstructed(
+    alloc: Global,
+    store: &mut QuietStore,
+    from: &PathMap,
+    to: &PathMap,
+    path: &[u8],
+) -> Result<bool, Fail>
+    requires { length to.now < 2 ^ 32 }
+{
+    let from = from_map(alloc, from)?;
+    match switch_writes(alloc, store, &from, to) {
+        Err(WorkFault::WouldOverwrite { path: found }) => Ok(found.bytes() == path),
+        _ => Ok(false),
+    }
+}
+
 // `git switch` says 'The following untracked working tree files would be overwritten', and names the least first.
 #[test]
 fn untracked_files_in_the_way_are_told(rt: HostRuntime) -> Result<(), Fail> {
     let alloc = rt.alloc();
-    let from = from_map(alloc, &file_map(alloc, &[(b"a", EMPTY)])?)?;
+    let from = file_map(alloc, &[(b"a", EMPTY)])?;
     let to = to_map(alloc)?;
-    let files: [&[u8]; 3] = [b"d", b"d/n", b"d/n/x"];
-    for file in files {
-        let mut store = store(alloc, &[(HELLO_FILE, b"blob 6\0hello\n"), (file, b"mine")])?;
-        match switch_writes(alloc, &mut store, &from, &to) {
-            Err(WorkFault::WouldOverwrite { path }) => assert!(rt;
-                path.bytes() == b"d/n".as_slice()
-            ),
-            _ => assert!(rt; false),
-        }
-    }
+    assert_eq!(rt; to.len(), 2);
+    let mut at = store(alloc, &[(b"a", b""), (b"d/n", b"mine")])?;
+    assert!(rt; is_obstructed(alloc, &mut at, &from, &to, b"d/n")?);
+    let mut above = store(alloc, &[(b"a", b""), (b"d", b"mine")])?;
+    assert!(rt; is_obstructed(alloc, &mut above, &from, &to, b"d/n")?);
+    let mut below = store(alloc, &[(b"a/x", b"mine"), (b"d/n/x", b"mine")])?;
+    assert!(rt; is_obstructed(alloc, &mut below, &from, &to, b"a")?);
     Ok(())
 }
 
-// `git cat-file blob` of an object that is not there, and of one of another kind.
+fn is_bad(alloc: Global, store: &mut QuietStore, from: &PathMap, to: &PathMap) -> Result<bool, Fail>
+    requires { length to.now < 2 ^ 32 }
+{
+    let from = from_map(alloc, from)?;
+    match switch_writes(alloc, store, &from, to) {
+        Err(WorkFault::BadObject { .. }) => Ok(true),
+        _ => Ok(false),
+    }
+}
+
+// `git cat-file blob` of an object that is not there, and of one whose file has other bytes.
 #[test]
 fn a_blob_that_cannot_be_read_is_told(rt: HostRuntime) -> Result<(), Fail> {
     let alloc = rt.alloc();
-    let from = from_map(alloc, &file_map(alloc, &[(b"a", HELLO)])?)?;
+    let from = file_map(alloc, &[(b"a", HELLO)])?;
     let to = to_map(alloc)?;
-    let mut store = store(alloc, &[(EMPTY_FILE, b"tree 0\0")])?;
-    match switch_writes(alloc, &mut store, &from, &to) {
-        Err(WorkFault::BadObject { id }) => assert!(rt; Id::from_hex(EMPTY) == Ok(id)),
-        _ => assert!(rt; false),
-    }
+    assert_eq!(rt; to.len(), 2);
+    let mut missing = store(alloc, &[])?;
+    assert!(rt; is_bad(alloc, &mut missing, &from, &to)?);
+    let mut damaged = store(alloc, &[(EMPTY_FILE, b"blob 1\0x")])?;
+    assert!(rt; is_bad(alloc, &mut damaged, &from, &to)?);
     Ok(())
 }
