@@ -1,15 +1,15 @@
 -- A map as an index, each entry merged.
-use Rattle.std.proofs.Common.{◌≡◌, ℕ, zero, suc, ◌+◌, ◌<◌, ◌≤◌, Bool, true, false, not, ◌||◌, List, [], ◌∷◌, ◌++◌, length, take, Some, refl, ap, ◌∙◌, arith}
-use Rattle.std.specs.Prelude.{slice_get}
+use Rattle.std.proofs.Common.{◌≡◌, ℕ, zero, suc, ◌+◌, ◌<◌, ◌≤◌, ◌^◌, Bool, true, false, not, ◌||◌, List, [], ◌∷◌, ◌++◌, length, take, Some, refl, ap, ◌∙◌, arith}
+use Rattle.std.specs.Prelude.{map, slice_get}
 use Rattle.std.specs.List.{AllByRecursion}
 use Rattle.std.proofs.lemmas.Bool.{and_from, not_from_false, or_left}
 use Rattle.std.proofs.lemmas.List.{map-append}
 use Rattle.seq_base.specs.declared.map.Entry.{Entry}
-use Rattle.seq_base.specs.PathMaps.{AreApart, IsAscending, IsPathMap, clashes, is_folder_of, is_less}
+use Rattle.seq_base.specs.PathMaps.{AreApart, HoldsFiles, IsAscending, IsPathMap, clashes, is_folder_of, is_less}
 use Rattle.index_file.specs.declared.entry.IndexEntry.{IndexEntry}
-use Rattle.index_file.specs.Entries.{IsInOrder, comes_before, holds, may_precede}
+use Rattle.index_file.specs.Entries.{IsInOrder, IsIndex, IsStaged, comes_before, holds, may_precede}
 use Rattle.index_file.specs.Index.{indexed}
-use Rattle.stage_index.specs.Stages.{Entries, map_of}
+use Rattle.stage_index.specs.Stages.{Entries, map_of, row_of}
 
 abbrev entry_of : List ℕ × Entry → IndexEntry
 entry_of e = record { path = e.0; stage = 0; mode = e.1.mode; id = e.1.id }
@@ -30,9 +30,24 @@ in_order (e ∷ es) up apart = (rows_precede e es up.0 apart.0, in_order es up.1
 pub indexed_in_order : (es : Entries) → IsPathMap es → IsInOrder (indexed es)
 indexed_in_order es map = in_order es map.ascending map.apart
 
+staged : (es : Entries) → HoldsFiles es → AllByRecursion IsStaged (indexed es)
+staged [] files = tt
+staged (e ∷ es) files = (record { stage = omega arith; mode = files.0 }, staged es files.1)
+
+same_length : (es : Entries) → length (indexed es) ≡ length es
+same_length [] = refl
+same_length (e ∷ es) = ap suc (same_length es)
+
+pub indexed_is_index : (es : Entries) → IsPathMap es → length es < 2 ^ 32 → IsIndex (indexed es)
+indexed_is_index es map few = record { in_order = indexed_in_order es map; staged = staged es map.files; few = let k = same_length es in omega arith }
+
 pub map_of-indexed : (es : Entries) → map_of (indexed es) ≡ es
 map_of-indexed [] = refl
 map_of-indexed (e ∷ es) = ap (λ (m : Entries). e ∷ m) (map_of-indexed es)
+
+pub rows_of-indexed : (es : Entries) → map row_of (indexed es) ≡ es
+rows_of-indexed [] = refl
+rows_of-indexed (e ∷ es) = ap (λ (m : Entries). e ∷ m) (rows_of-indexed es)
 
 -- ---- by pushes
 

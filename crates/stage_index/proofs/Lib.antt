@@ -2,6 +2,6 @@ pub mod Orders
 pub mod Leasts
 pub mod Differences
 pub mod Staging
-pub mod Changing
+pub mod FirstPassing
 pub mod Tracking
 pub mod Indexing

@@ -1,7 +1,7 @@
 //! The index that has a map's entries.
 
-ghost use Rattle.std.specs.Prelude.{◌≡◌, IfOk};
-ghost use Rattle.index_file.specs.Entries.{IsInOrder};
+ghost use Rattle.std.specs.Prelude.{◌≡◌, ◌<◌, ◌^◌, IfOk, length};
+ghost use Rattle.index_file.specs.Entries.{IsInOrder, IsIndex};
 ghost use Rattle.index_file.specs.Index.{indexed};
 ghost use Rattle.stage_index.specs.Stages.{map_of};
 
@@ -39,6 +39,7 @@ pub fn from_map(alloc: Global, map: &PathMap) -> Result<Vec<IndexEntry>, AllocEr
 
     // They follow from `indexed`.
     ensures order { IfOk result (λ entries. IsInOrder entries.items) }
+    ensures index { IfOk result (λ entries. length map.now < 2 ^ 32 → IsIndex entries.items) }
     ensures map { IfOk result (λ entries. map_of entries.items ≡ map.now) }
 {
     let _length = map.len();

@@ -21,3 +21,12 @@ HasReadCause (Err (BadObject id)) faults faults' blocked blocked' = ⊥
 HasReadCause (Err (TooLarge length)) faults faults' blocked blocked' = ⊥
 HasReadCause (Err Fault) faults faults' blocked blocked' = (faults ≤ faults') × Rose faults faults' × (blocked ≤ blocked')
 HasReadCause (Err Memory) faults faults' blocked blocked' = (faults' ≡ faults) × (blocked ≤ blocked')
+
+-- Of a call that reads and may refuse.
+abbrev pub HasCause : {T : Type 0} → Result T WorkFault → ℕ → ℕ → ℕ → ℕ → Type 0
+HasCause (Ok x) faults faults' blocked blocked' = (faults' ≡ faults) × (blocked ≤ blocked')
+HasCause (Err (WouldOverwrite path)) faults faults' blocked blocked' = (faults' ≡ faults) × (blocked ≤ blocked')
+HasCause (Err (BadObject id)) faults faults' blocked blocked' = (faults' ≡ faults) × (blocked ≤ blocked')
+HasCause (Err (TooLarge length)) faults faults' blocked blocked' = (faults' ≡ faults) × (blocked ≤ blocked')
+HasCause (Err Fault) faults faults' blocked blocked' = (faults ≤ faults') × Rose faults faults' × (blocked ≤ blocked')
+HasCause (Err Memory) faults faults' blocked blocked' = (faults' ≡ faults) × (blocked ≤ blocked')

@@ -1,1 +1,4 @@
 pub mod Causes
+pub mod Folders
+pub mod Blobs
+pub mod Placed

@@ -2,24 +2,16 @@
 
 ghost use Rattle.std.specs.Prelude.{◌≡◌, IfOk};
 ghost use Rattle.index_file.specs.Entries.{IsInOrder};
-ghost use Rattle.stage_index.specs.Changes.{changed, is_changed as is_changed_in, is_gitlink as is_gitlink_mode};
+ghost use Rattle.stage_index.specs.Changes.{changed, is_changed as is_changed_in};
 ghost use Rattle.worktree.specs.Causes.{HasReadCause};
 
 use crate::blob::is_blob;
 use crate::fault::WorkFault;
+use crate::rewritten::is_gitlink;
 use index_file::IndexEntry;
-use seq_base::{Mode, Path};
+use seq_base::Path;
 use seq_outside::Store;
 use std::alloc::{AllocError, Global};
-
-fn is_gitlink(mode: Mode) -> bool
-    ensures { result ≡ is_gitlink_mode mode }
-{
-    match mode {
-        Mode::Gitlink => true,
-        Mode::File | Mode::Exec | Mode::Link | Mode::Folder => false,
-    }
-}
 
 fn copy_of(path: &Path) -> Result<Path, AllocError>
     ensures { IfOk result (λ copy. copy ≡ path.now) }

@@ -5,7 +5,7 @@ ghost use Rattle.worktree.specs.Causes.{fault_of};
 
 use seq_base::{Id, Path};
 use seq_outside::StoreError;
-use std::alloc::AllocError;
+use std::alloc::{AllocError, AllocFailed};
 use thiserror::Error;
 
 /// Why the files were not looked at or not changed. The first three are looked for in this order.
@@ -44,6 +44,16 @@ impl From<AllocError> for WorkFault {
     ghost from_gives = { λ _ fault. fault ≡ Memory };
 
     fn from(_e: AllocError) -> WorkFault {
+        WorkFault::Memory
+    }
+}
+
+impl<T: Drop> From<AllocFailed<T>> for WorkFault {
+    ghost use Rattle.worktree.specs.declared.fault.WorkFault.TheVariants.{Memory};
+
+    ghost from_gives = { λ _ fault. fault ≡ Memory };
+
+    fn from(_e: AllocFailed<T>) -> WorkFault {
         WorkFault::Memory
     }
 }

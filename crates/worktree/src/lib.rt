@@ -4,6 +4,13 @@
 mod blob;
 mod changed;
 mod fault;
+mod obstacle;
+mod rewritten;
+mod writes;
 
 pub use changed::first_change;
 pub use fault::WorkFault;
+pub use writes::switch_writes;
+
+#[cfg(test)]
+mod tests;

@@ -1,7 +1,7 @@
 use Rattle.std.proofs.Common.{rules, arith, ◌<◌, Some, length, sym, ap, ◌∙◌}
 use Rattle.seq_base.specs.World.{World}
 use Rattle.stage_index.specs.Changes.{is_changed}
-use Rattle.stage_index.proofs.Changing.{changed_at, none_at, order_at, unchanged_at}
+use Rattle.stage_index.proofs.FirstPassing.{changed_is, fails_at, none_at, order_at, passes_at}
 use Rattle.worktree.proofs.changed.first_change.Goals as goal
 
 pub returns-then-branch-clause-found : goal.returns-then-branch-clause-found
@@ -9,7 +9,7 @@ returns-then-branch-clause-found g c told =
     let some : 0 < length c.loop-rest.rest.now = omega arith in
     let e = c.entry-item.result in
     let is = ap (λ (w : World). is_changed w e) (sym (c.loop-rest.invariant.same told)) ∙ sym (c.in_ok-is_changed.ensures.told told) ∙ c.if-branch.true in
-    ap Some c.in_ok-copy_of.ensures ∙ changed_at _ c.args.index.now c.loop-rest.rest.now e (c.loop-rest.invariant.rest told) c.loop-rest.invariant.order some c.entry-item.is is
+    ap Some c.in_ok-copy_of.ensures ∙ passes_at (is_changed (g.S.Store.content c.args.store.now)) c.args.index.now c.loop-rest.rest.now e (c.loop-rest.invariant.rest told) c.loop-rest.invariant.order some c.entry-item.is is ∙ changed_is _ _
 
 pub loop-rest-preserved : goal.loop-rest-preserved
 loop-rest-preserved g c =
@@ -18,7 +18,7 @@ loop-rest-preserved g c =
     record {
       rest = λ told.
           let is = ap (λ (w : World). is_changed w e) (sym (c.loop-rest.invariant.same told)) ∙ sym (c.in_ok-is_changed.ensures.told told) ∙ c.if-branch.false in
-          unchanged_at _ c.args.index.now c.loop-rest.rest.now e (c.loop-rest.invariant.rest told) some c.entry-item.is is;
+          fails_at (is_changed (g.S.Store.content c.args.store.now)) c.args.index.now c.loop-rest.rest.now e (c.loop-rest.invariant.rest told) some c.entry-item.is is;
       same = λ told. c.in_ok-is_changed.ensures.same told ∙ c.loop-rest.invariant.same told;
       order = order_at c.loop-rest.rest.now e c.loop-rest.invariant.order some c.entry-item.is;
       faults = search rules;
@@ -26,4 +26,4 @@ loop-rest-preserved g c =
     }
 
 pub returns-clause-found : goal.returns-clause-found
-returns-clause-found g c told = none_at _ c.args.index.now c.loop-rest.rest.now (c.loop-rest.invariant.rest told) (omega arith)
+returns-clause-found g c told = none_at (is_changed (g.S.Store.content c.args.store.now)) c.args.index.now c.loop-rest.rest.now (c.loop-rest.invariant.rest told) (omega arith) ∙ changed_is _ _

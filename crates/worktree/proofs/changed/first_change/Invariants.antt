@@ -1,11 +1,12 @@
 use Rattle.std.proofs.Common.{◌≡◌, ◌≤◌, length}
 use Rattle.index_file.specs.Entries.{IsInOrder}
-use Rattle.stage_index.proofs.Changing.{Rest}
+use Rattle.stage_index.specs.Changes.{is_changed}
+use Rattle.stage_index.proofs.FirstPassing.{Rest}
 use Rattle.worktree.proofs.changed.first_change.Given as goal
 
 abbrev pub invariant-loop-rest : goal.invariant-loop-rest
 invariant-loop-rest g l = record {
-  rest : g.S.Store.told → Rest (g.S.Store.content l.fn.store) l.index l.rest;
+  rest : g.S.Store.told → Rest (is_changed (g.S.Store.content l.fn.store)) l.index l.rest;
   same : g.S.Store.told → g.S.Store.content l.store ≡ g.S.Store.content l.fn.store;
   order : IsInOrder l.rest;
   faults : g.S.Store.faults l.store ≡ g.S.Store.faults l.fn.store;

@@ -1,0 +1,180 @@
+-- The writes of a switch, as far as they were gathered.
+use Rattle.std.proofs.Common.{◌≡◌, ℕ, ◌-◌, ◌<◌, Bool, true, false, cond, List, [], ◌∷◌, ◌++◌, append_assoc, length, take, drop, get_or, Option, Some, None, Result, Ok, Err, refl, sym, ap, subst, ◌∙◌, arith}
+use Rattle.std.specs.Prelude.{codes, filter, is_none, map}
+use Rattle.std.proofs.lemmas.List.Elements.{filter-append}
+use Rattle.seq_base.specs.PathMaps.{entry_at}
+use Rattle.seq_base.specs.World.{World}
+use Rattle.seq_outside.specs.declared.write.Write.{Write}
+use Rattle.seq_outside.specs.declared.write.Write.TheVariants.{Put, Remove}
+use Rattle.seq_outside.proofs.Firsts.{first_and_others}
+use Rattle.index_file.specs.declared.entry.IndexEntry.{IndexEntry}
+use Rattle.index_file.specs.Index.{indexed}
+use Rattle.index_file.specs.Spelling.{index_text}
+use Rattle.stage_index.specs.Stages.{Entries, map_of, row_of}
+use Rattle.stage_index.specs.Switching.{SwitchFault, InWay, NoBlob, ◌>>=◌, blob_at, blob_writes, first_obstructed, index_write, is_rewritten, or_no_blob, removals, switch_writes}
+use Rattle.stage_index.proofs.Indexing.{rows_of-indexed}
+use Rattle.worktree.specs.declared.fault.WorkFault.{WorkFault}
+use Rattle.worktree.specs.declared.fault.WorkFault.TheVariants.{WouldOverwrite, BadObject, TooLarge, Fault, Memory}
+use Rattle.worktree.specs.Blobs.{Refuses}
+
+-- ---- removals
+
+removals_split : (x : IndexEntry) (xs : List IndexEntry) (to : Entries) → removals (x ∷ xs) to ≡ removals (x ∷ []) to ++ removals xs to
+removals_split x xs to = at (is_none (entry_at to x.path))
+  where
+    others : List IndexEntry
+    others = filter (λ e. is_none (entry_at to e.path)) xs
+
+    at : (t : Bool) → map (λ e. Remove e.path) (cond t (x ∷ others) others) ≡ map (λ e. Remove e.path) (cond t (x ∷ []) []) ++ map (λ e. Remove e.path) others
+    at true = refl
+    at false = refl
+
+pub removals_more : (rest : List IndexEntry) (x : IndexEntry) (to : Entries) (all now new : List Write) → 0 < length rest → x ≡ get_or rest 0 x → new ≡ now ++ removals (x ∷ []) to → now ++ removals rest to ≡ all
+    → new ++ removals (take (length rest - 1) (drop 1 rest)) to ≡ all
+removals_more rest x to all now new some first made so_far =
+    let others = take (length rest - 1) (drop 1 rest) in
+    ap (λ (ws : List Write). ws ++ removals others to) made
+    ∙ append_assoc now (removals (x ∷ []) to) (removals others to)
+    ∙ ap (λ (ws : List Write). now ++ ws) (sym (removals_split x others to) ∙ ap (λ (es : List IndexEntry). removals es to) (sym (first_and_others rest x some first)))
+    ∙ so_far
+
+no_entries : (rest : List IndexEntry) → length rest ≡ 0 → rest ≡ []
+no_entries [] h = refl
+no_entries (e ∷ es) h = absurd (omega arith)
+
+nothing_more : (ws : List Write) → ws ++ [] ≡ ws
+nothing_more [] = refl
+nothing_more (w ∷ ws) = ap (λ (vs : List Write). w ∷ vs) (nothing_more ws)
+
+pub removals_end : (rest : List IndexEntry) (to : Entries) (all now : List Write) → length rest ≡ 0 → now ++ removals rest to ≡ all → now ≡ all
+removals_end rest to all now none so_far = sym (nothing_more now) ∙ ap (λ (es : List IndexEntry). now ++ removals es to) (sym (no_entries rest none)) ∙ so_far
+
+-- ---- blobs
+
+abbrev pub chosen : List IndexEntry → List IndexEntry → Entries
+chosen from es = filter (is_rewritten from) (map row_of es)
+
+-- behind what was made the rest makes what all make
+pub record BlobsSoFar (w : World) (from all rest : List IndexEntry) (old now : List Write) : Type 0 where
+  pub made : List Write
+  pub now_is : now ≡ old ++ made
+  pub means : blob_writes w (chosen from all) ≡ (blob_writes w (chosen from rest) >>= λ more. Ok (made ++ more))
+
+same_writes : (r : Result (List Write) SwitchFault) → r ≡ (r >>= λ more. Ok ([] ++ more))
+same_writes (Ok ws) = refl
+same_writes (Err e) = refl
+
+pub blobs_begin : (w : World) (from all : List IndexEntry) (old : List Write) → BlobsSoFar w from all all old old
+blobs_begin w from all old = record { made = []; now_is = sym (nothing_more old); means = same_writes (blob_writes w (chosen from all)) }
+
+-- one after the other
+both_writes : (w : World) (xs ys : Entries) → blob_writes w (xs ++ ys) ≡ (blob_writes w xs >>= λ first. (blob_writes w ys >>= λ more. Ok (first ++ more)))
+unfolding blob_writes
+both_writes w [] ys = same_writes (blob_writes w ys)
+both_writes w (x ∷ xs) ys = at (or_no_blob (blob_at w x.1.id) x.1.id) (both_writes w xs ys)
+  where
+    at : (r : Result (List ℕ) SwitchFault) → blob_writes w (xs ++ ys) ≡ (blob_writes w xs >>= λ first. (blob_writes w ys >>= λ more. Ok (first ++ more)))
+        → (r >>= λ bytes. (blob_writes w (xs ++ ys) >>= λ others. Ok (Put x.0 bytes ∷ others)))
+        ≡ ((r >>= λ bytes. (blob_writes w xs >>= λ others. Ok (Put x.0 bytes ∷ others))) >>= λ first. (blob_writes w ys >>= λ more. Ok (first ++ more)))
+    at (Err e) later = refl
+    at (Ok bytes) later = ap (λ (r : Result (List Write) SwitchFault). r >>= λ others. Ok (Put x.0 bytes ∷ others)) later ∙ inner (blob_writes w xs) (blob_writes w ys)
+      where
+        inner : (p q : Result (List Write) SwitchFault) → ((p >>= λ first. (q >>= λ more. Ok (first ++ more))) >>= λ others. Ok (Put x.0 bytes ∷ others)) ≡ ((p >>= λ others. Ok (Put x.0 bytes ∷ others)) >>= λ first. (q >>= λ more. Ok (first ++ more)))
+        inner (Err e) q = refl
+        inner (Ok ws) (Err e) = refl
+        inner (Ok ws) (Ok vs) = refl
+
+chosen_split : (from : List IndexEntry) (x : IndexEntry) (xs : List IndexEntry) → chosen from (x ∷ xs) ≡ chosen from (x ∷ []) ++ chosen from xs
+chosen_split from x xs = filter-append (is_rewritten from) (row_of x ∷ []) (map row_of xs)
+
+split_means : (w : World) (from all : List IndexEntry) (x : IndexEntry) (xs : List IndexEntry) (made : List Write) → blob_writes w (chosen from all) ≡ (blob_writes w (chosen from (x ∷ xs)) >>= λ more. Ok (made ++ more))
+    → blob_writes w (chosen from all) ≡ ((blob_writes w (chosen from (x ∷ [])) >>= λ first. (blob_writes w (chosen from xs) >>= λ more. Ok (first ++ more))) >>= λ more. Ok (made ++ more))
+split_means w from all x xs made so_far =
+    so_far ∙ ap (λ (r : Result (List Write) SwitchFault). r >>= λ more. Ok (made ++ more)) (ap (blob_writes w) (chosen_split from x xs) ∙ both_writes w (chosen from (x ∷ [])) (chosen from xs))
+
+-- what one entry makes was pushed
+abbrev pub Pushed : World → List IndexEntry → IndexEntry → List Write → List Write → Type 0
+Pushed w from x now new = (first : List Write) × (blob_writes w (chosen from (x ∷ [])) ≡ Ok first) × (new ≡ now ++ first)
+
+pub blobs_more : (w : World) (from all rest : List IndexEntry) (old now new : List Write) (x : IndexEntry) → BlobsSoFar w from all rest old now → 0 < length rest → x ≡ get_or rest 0 x
+    → (first : List Write) × (blob_writes w (chosen from (x ∷ [])) ≡ Ok first) × (new ≡ now ++ first) → BlobsSoFar w from all (take (length rest - 1) (drop 1 rest)) old new
+blobs_more w from all rest old now new x so_far some is pushed =
+    let others = take (length rest - 1) (drop 1 rest) in
+    let means = subst (λ (es : List IndexEntry). blob_writes w (chosen from all) ≡ (blob_writes w (chosen from es) >>= λ more. Ok (so_far.made ++ more))) (first_and_others rest x some is) so_far.means in
+    record {
+      made = so_far.made ++ pushed.0;
+      now_is = pushed.2 ∙ ap (λ (ws : List Write). ws ++ pushed.0) so_far.now_is ∙ append_assoc old so_far.made pushed.0;
+      means = split_means w from all x others so_far.made means ∙ ap (λ (r : Result (List Write) SwitchFault). (r >>= λ first. (blob_writes w (chosen from others) >>= λ more. Ok (first ++ more))) >>= λ more. Ok (so_far.made ++ more)) pushed.1 ∙ regroup so_far.made pushed.0 (blob_writes w (chosen from others));
+    }
+  where
+    regroup : (made first : List Write) (r : Result (List Write) SwitchFault) → ((r >>= λ more. Ok (first ++ more)) >>= λ more. Ok (made ++ more)) ≡ (r >>= λ more. Ok ((made ++ first) ++ more))
+    regroup made first (Err e) = refl
+    regroup made first (Ok more) = ap Ok (sym (append_assoc made first more))
+
+-- where one fails all do
+fails_with : (w : World) (from all rest : List IndexEntry) (old now : List Write) (x : IndexEntry) (e : SwitchFault) → BlobsSoFar w from all rest old now → 0 < length rest → x ≡ get_or rest 0 x
+    → blob_writes w (chosen from (x ∷ [])) ≡ Err e → blob_writes w (chosen from all) ≡ Err e
+fails_with w from all rest old now x e so_far some is failed =
+    let others = take (length rest - 1) (drop 1 rest) in
+    let means = subst (λ (es : List IndexEntry). blob_writes w (chosen from all) ≡ (blob_writes w (chosen from es) >>= λ more. Ok (so_far.made ++ more))) (first_and_others rest x some is) so_far.means in
+    split_means w from all x others so_far.made means ∙ ap (λ (r : Result (List Write) SwitchFault). (r >>= λ first. (blob_writes w (chosen from others) >>= λ more. Ok (first ++ more))) >>= λ more. Ok (so_far.made ++ more)) failed
+
+pub blobs_fail : (w : World) (from all rest : List IndexEntry) (old now : List Write) (x : IndexEntry) (e : WorkFault) → BlobsSoFar w from all rest old now → 0 < length rest → x ≡ get_or rest 0 x
+    → Refuses e w (blob_writes w (chosen from (x ∷ []))) → Refuses e w (blob_writes w (chosen from all))
+blobs_fail w from all rest old now x (WouldOverwrite path) so_far some is refused = fails_with w from all rest old now x _ so_far some is refused
+blobs_fail w from all rest old now x (BadObject id) so_far some is refused = (fails_with w from all rest old now x _ so_far some is refused.0, refused.1)
+blobs_fail w from all rest old now x (TooLarge count) so_far some is refused = (refused.0, fails_with w from all rest old now x _ so_far some is refused.1, refused.2)
+blobs_fail w from all rest old now x Fault so_far some is refused = tt
+blobs_fail w from all rest old now x Memory so_far some is refused = tt
+
+last : (w : World) (made : List Write) → (blob_writes w [] >>= λ more. Ok (made ++ more)) ≡ Ok made
+unfolding blob_writes
+last w made = ap Ok (nothing_more made)
+
+pub blobs_end : (w : World) (from all rest : List IndexEntry) (old now : List Write) → BlobsSoFar w from all rest old now → length rest ≡ 0 → (made : List Write) × (blob_writes w (chosen from all) ≡ Ok made) × (now ≡ old ++ made)
+blobs_end w from all rest old now so_far none =
+    (so_far.made, so_far.means ∙ ap (λ (es : List IndexEntry). blob_writes w (chosen from es) >>= λ more. Ok (so_far.made ++ more)) (no_entries rest none) ∙ last w so_far.made, so_far.now_is)
+
+-- ---- all of it
+
+pub obstructed_switch : (w : World) (from : List IndexEntry) (to : Entries) (path : List ℕ) → first_obstructed w from to ≡ Some path → switch_writes w from to ≡ Err (InWay path)
+unfolding switch_writes
+obstructed_switch w from to path is = rw is refl
+
+fails_so : (w : World) (from : List IndexEntry) (to : Entries) (e : SwitchFault) → first_obstructed w from to ≡ None → blob_writes w (filter (is_rewritten from) to) ≡ Err e → switch_writes w from to ≡ Err e
+unfolding switch_writes
+fails_so w from to e free is = rw (free, is) refl
+
+pub refused_switch : (w : World) (from : List IndexEntry) (to : Entries) (e : WorkFault) → first_obstructed w from to ≡ None → Refuses e w (blob_writes w (filter (is_rewritten from) to)) → Refuses e w (switch_writes w from to)
+refused_switch w from to e free refused = at e refused
+  where
+    fails : (e : SwitchFault) → blob_writes w (filter (is_rewritten from) to) ≡ Err e → switch_writes w from to ≡ Err e
+    fails e is = fails_so w from to e free is
+
+    at : (e : WorkFault) → Refuses e w (blob_writes w (filter (is_rewritten from) to)) → Refuses e w (switch_writes w from to)
+    at (WouldOverwrite path) refused = fails (InWay path) refused
+    at (BadObject id) refused = (fails (NoBlob id) refused.0, refused.1)
+    at (TooLarge count) refused = (refused.0, fails (NoBlob refused.0) refused.1, refused.2)
+    at Fault refused = tt
+    at Memory refused = tt
+
+pub all_writes : (w : World) (from : List IndexEntry) (to : Entries) (blobs : List Write) → first_obstructed w from to ≡ None → blob_writes w (filter (is_rewritten from) to) ≡ Ok blobs → switch_writes w from to ≡ Ok (removals from to ++ index_write to ∷ blobs)
+unfolding switch_writes
+all_writes w from to blobs free is = rw (free, is) refl
+
+-- the entries that are gone through are those of the map
+pub found_in : (w : World) (from : List IndexEntry) (to : Entries) (items slice : List IndexEntry) (found : Option (List ℕ)) → items ≡ indexed to → items ≡ slice → found ≡ first_obstructed w from (map row_of slice) → first_obstructed w from to ≡ found
+found_in w from to items slice found is same found_is = ap (first_obstructed w from) (sym (rows_of-indexed to) ∙ ap (map row_of) (sym is ∙ same)) ∙ sym found_is
+
+pub rows_in : (to : Entries) (items slice : List IndexEntry) → items ≡ indexed to → items ≡ slice → map row_of slice ≡ to
+rows_in to items slice is same = ap (map row_of) (sym same ∙ is) ∙ rows_of-indexed to
+
+pub gathered : (from : List IndexEntry) (to : Entries) (items second third : List IndexEntry) (old removed indexed_too all made : List Write) (x : Write) → items ≡ indexed to → map_of items ≡ to → items ≡ second → items ≡ third
+    → old ≡ [] → removed ≡ old ++ removals from (map_of second) → x ≡ Put (codes ".git/index") (index_text third) → indexed_too ≡ removed ++ x ∷ [] → all ≡ indexed_too ++ made → removals from to ++ index_write to ∷ made ≡ all
+gathered from to items second third old removed indexed_too all made x is map_is two three none gone write pushed last =
+    let removed_is : removed ≡ removals from to = gone ∙ ap (λ (ws : List Write). ws ++ removals from (map_of second)) none ∙ ap (λ (es : List IndexEntry). removals from (map_of es)) (sym two) ∙ ap (removals from) map_is in
+    let write_is : x ≡ index_write to = write ∙ ap (λ (es : List IndexEntry). Put (codes ".git/index") (index_text es)) (sym three ∙ is) in
+    sym (
+    last
+    ∙ ap (λ (ws : List Write). ws ++ made) (pushed ∙ ap (λ (ws : List Write). ws ++ x ∷ []) removed_is ∙ ap (λ (v : Write). removals from to ++ v ∷ []) write_is)
+    ∙ append_assoc (removals from to) (index_write to ∷ []) made)

@@ -1,0 +1,18 @@
+use Rattle.std.proofs.Common.{◌≡◌, ◌≤◌, length}
+use Rattle.index_file.specs.Entries.{IsInOrder}
+use Rattle.stage_index.specs.Stages.{row_of}
+use Rattle.stage_index.specs.Switching.{is_obstructed}
+use Rattle.stage_index.proofs.FirstPassing.{Rest}
+use Rattle.worktree.proofs.obstacle.first_obstructed.Given as goal
+
+abbrev pub invariant-loop-rest : goal.invariant-loop-rest
+invariant-loop-rest g l = record {
+  rest : g.S.Store.told → Rest (λ e. is_obstructed (g.S.Store.content l.fn.store) l.from (row_of e)) l.to l.rest;
+  same : g.S.Store.told → g.S.Store.content l.store ≡ g.S.Store.content l.fn.store;
+  order : IsInOrder l.rest;
+  faults : g.S.Store.faults l.store ≡ g.S.Store.faults l.fn.store;
+  blocked : g.S.Store.blocked l.fn.store ≤ g.S.Store.blocked l.store;
+}
+
+abbrev pub decreases-loop-rest : goal.decreases-loop-rest
+decreases-loop-rest g l = length l.rest

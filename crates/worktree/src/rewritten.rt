@@ -1,0 +1,70 @@
+//! Which paths a switch writes, and which files it must not meet.
+
+ghost use Rattle.std.specs.Prelude.{◌≡◌, Some};
+ghost use Rattle.index_file.specs.Entries.{IsInOrder};
+ghost use Rattle.seq_base.specs.World.{is_below};
+ghost use Rattle.stage_index.specs.Changes.{is_gitlink as is_gitlink_mode, same_entry};
+ghost use Rattle.stage_index.specs.Stages.{merged_entry, row_of};
+ghost use Rattle.stage_index.specs.Switching.{is_kept as is_kept_in, is_rewritten as is_rewritten_in, is_tracked as is_tracked_in, is_untracked as is_untracked_in};
+
+use index_file::IndexEntry;
+use seq_base::Mode;
+use stage_index::tracked;
+
+pub(crate) fn is_gitlink(mode: Mode) -> bool
+    ensures { result ≡ is_gitlink_mode mode }
+{
+    match mode {
+        Mode::Gitlink => true,
+        Mode::File | Mode::Exec | Mode::Link | Mode::Folder => false,
+    }
+}
+
+fn is_same(kept: &IndexEntry, entry: &IndexEntry) -> bool
+    ensures { result ≡ same_entry (merged_entry (Some kept.now)) (Some (row_of entry.now).1) }
+{
+    if kept.stage != 0 {
+        return false;
+    }
+    kept.mode.number() == entry.mode.number() && kept.id.bytes() == entry.id.bytes()
+}
+
+/// Whether the index has the same at the entry's path.
+fn is_kept(from: &[IndexEntry], entry: &IndexEntry) -> bool
+    requires { IsInOrder from.now }
+    ensures { result ≡ is_kept_in from.now (row_of entry.now) }
+{
+    match tracked(from, entry.path.bytes()) {
+        Some(kept) => is_same(kept, entry),
+        None => false,
+    }
+}
+
+/// Whether the blob of the entry is written.
+pub(crate) fn is_rewritten(from: &[IndexEntry], entry: &IndexEntry) -> bool
+    requires { IsInOrder from.now }
+    ensures { result ≡ is_rewritten_in from.now (row_of entry.now) }
+{
+    !is_kept(from, entry) && !is_gitlink(entry.mode)
+}
+
+pub(crate) fn is_tracked(from: &[IndexEntry], path: &[u8]) -> bool
+    requires { IsInOrder from.now }
+    ensures { result ≡ is_tracked_in from.now path.now }
+{
+    tracked(from, path).is_some()
+}
+
+fn lies_below(folder: &[u8], path: &[u8]) -> bool
+    ensures { result ≡ is_below folder.now path.now }
+{
+    path.starts_with(folder) && folder.len() < path.len() && path[folder.len()] == b'/'
+}
+
+/// Whether a file that stands there lies outside `.git`, and the index does not have it.
+pub(crate) fn is_untracked(from: &[IndexEntry], path: &[u8]) -> bool
+    requires { IsInOrder from.now }
+    ensures { result ≡ is_untracked_in from.now path.now }
+{
+    !lies_below(b".git", path) && !is_tracked(from, path)
+}
