@@ -1,5 +1,6 @@
 pub mod Written
 pub mod FreeWrites
 pub mod Drafts
+pub mod FreeDrafts
 pub mod Keys
 pub mod Blocking
