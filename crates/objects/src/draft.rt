@@ -2,12 +2,14 @@
 
 ghost use Rattle.std.specs.List.{AllByRecursion};
 ghost use Rattle.std.specs.Ordering.{eq_by_cmp};
-ghost use Rattle.std.specs.Prelude.{◌≡◌, false, IfOk, List, OnErr, OnOk, length, ℕ};
+ghost use Rattle.std.specs.Prelude.{◌≡◌, false, true, IfOk, List, OnErr, OnOk, length, ℕ};
 ghost use Rattle.object_text.specs.Store.{object_path};
 ghost use Rattle.objects.specs.Causes.{HasReadCause};
 ghost use Rattle.objects.specs.Drafted.{HasLengthJudged, IsDrafted, Settles};
-ghost use Rattle.seq_base.specs.World.{path_cmp};
-ghost use Rattle.seq_outside.specs.Writes.{IsInPlace, IsKept, is_written, written};
+ghost use Rattle.seq_base.specs.World.{World, path_cmp};
+ghost use Rattle.seq_base.specs.Repository.{IsRepository};
+ghost use Rattle.seq_outside.specs.Drafts.{is_removed};
+ghost use Rattle.seq_outside.specs.Writes.{IsInPlace, IsKept, are_free, is_written, written};
 ghost use Rattle.sha1.specs.Sha1.{sha1};
 
 use crate::fault::ObjectFault;
@@ -56,6 +58,8 @@ pub fn draft_object<S: Store>(
     ensures limit { HasLengthJudged (length bytes.now) result }
     ensures err { OnErr result (draft.new ≡ draft.old) }
     ensures named { IfOk result (λ id. (q : List ℕ) → eq_by_cmp path_cmp q (object_path id) ≡ false → is_written draft.new q ≡ is_written draft.old q) }
+    ensures free { IfOk result (λ id. (w : World) → are_free w draft.old ≡ true → IsRepository (written w draft.old) → is_removed draft.old (object_path id) ≡ false → are_free w draft.new ≡ true) }
+    ensures removed { OnOk result ((q : List ℕ) → is_removed draft.old q ≡ false → is_removed draft.new q ≡ false) }
     ensures in_place { OnOk result (AllByRecursion IsInPlace draft.old → AllByRecursion IsInPlace draft.new) }
     ensures kept { OnOk result (AllByRecursion IsKept draft.old → AllByRecursion IsKept draft.new) }
     ensures same { S.told → S.content store.new ≡ S.content store.old }

@@ -2,5 +2,6 @@ pub mod Firsts
 pub mod Written
 pub mod FreeWrites
 pub mod Drafts
+pub mod FreeDrafts
 pub mod Keys
 pub mod Blocking

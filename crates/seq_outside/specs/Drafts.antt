@@ -3,7 +3,7 @@ use Rattle.std.specs.Prelude.{◌≡◌, ◌⊎◌, ℕ, ◌<◌, Bool, true, fa
 use Rattle.std.specs.FinMap as map
 use Rattle.std.specs.List.{AllByRecursion, list_any}
 use Rattle.std.specs.Ordering.{eq_by_cmp}
-use Rattle.seq_base.specs.World.{World, is_below, path_cmp}
+use Rattle.seq_base.specs.World.{World, is_below, is_blocked, path_cmp}
 use Rattle.seq_outside.specs.Writes.{HasStorePath, is_written, path_of, written}
 use Rattle.seq_outside.specs.declared.write.Write.{Write}
 use Rattle.seq_outside.specs.declared.write.Write.TheVariants.{Put, Remove}
@@ -30,6 +30,19 @@ pub record IsPlace (writes : List Write) (path : List ℕ) (i : ℕ) : Type 0 wh
 abbrev pub with_write : List Write → Write → List Write
 with_write [] write = write ∷ []
 with_write (x ∷ xs) write = if is_at (path_of write) x then write ∷ xs else x ∷ with_write xs write
+
+-- the write removes this file
+abbrev pub removes : List ℕ → Write → Bool
+removes file (Put path bytes) = false
+removes file (Remove path) = eq_by_cmp path_cmp file path
+
+abbrev pub is_removed : List Write → List ℕ → Bool
+is_removed writes file = list_any (removes file) writes
+
+-- the write undoes no removal, and is not blocked once the others are made
+abbrev pub MayFollow : World → List Write → Write → Type 0
+MayFollow w writes (Put path bytes) = (is_removed writes path ≡ false) × (is_blocked (written w writes) path ≡ false)
+MayFollow w writes (Remove path) = Unit {0}
 
 -- the write puts a file below this folder
 abbrev pub puts_below : List ℕ → Write → Bool

@@ -7,8 +7,8 @@ ghost use Rattle.std.specs.List.{AllByRecursion};
 ghost use Rattle.seq_base.specs.Paths.{parts};
 ghost use Rattle.seq_base.specs.Repository.{IsRepository, is_file_place, is_in_place};
 ghost use Rattle.seq_base.specs.StorePaths.{IsStorePath};
-ghost use Rattle.seq_base.specs.World.{World, path_cmp};
-ghost use Rattle.seq_outside.specs.Drafts.{IsBetween, IsDraft, IsPlace, is_at as is_at_path, with_write};
+ghost use Rattle.seq_base.specs.World.{World, is_blocked, path_cmp};
+ghost use Rattle.seq_outside.specs.Drafts.{IsBetween, IsDraft, IsPlace, MayFollow, is_at as is_at_path, is_removed, removes, with_write};
 ghost use Rattle.seq_outside.specs.Store.{HasStoreCause};
 ghost use Rattle.seq_outside.specs.Writes.{HasStorePath, IsInPlace, IsKept, after, are_free, is_written, written};
 
@@ -114,6 +114,8 @@ impl Draft {
         ensures writes { OnOk result (self.new ≡ with_write self.old write) }
         ensures done { OnOk result ((w : World) → written w self.new ≡ after (written w self.old) write) }
         ensures named { OnOk result ((q : List ℕ) → is_written self.new q ≡ (is_written self.old q || is_at_path q write)) }
+        ensures free { OnOk result ((w : World) → are_free w self.old ≡ true → MayFollow w self.old write → are_free w self.new ≡ true) }
+        ensures removed { OnOk result ((q : List ℕ) → is_removed self.old q ≡ false → removes q write ≡ false → is_removed self.new q ≡ false) }
         ensures in_place { OnOk result (AllByRecursion IsInPlace self.old → IsInPlace write → AllByRecursion IsInPlace self.new) }
         ensures kept { OnOk result (AllByRecursion IsKept self.old → IsKept write → AllByRecursion IsKept self.new) }
         ensures err { OnErr result (self.new ≡ self.old) }
@@ -128,11 +130,14 @@ impl Draft {
         ensures writes { OnOk result (self.new ≡ with_write self.old (Write.Put path bytes)) }
         ensures done { OnOk result ((w : World) → written w self.new ≡ map.insert (written w self.old) path bytes) }
         ensures named { OnOk result ((q : List ℕ) → is_written self.new q ≡ (is_written self.old q || eq_by_cmp path_cmp q path)) }
+        ensures free { OnOk result ((w : World) → are_free w self.old ≡ true → is_removed self.old path ≡ false → is_blocked (written w self.old) path ≡ false → are_free w self.new ≡ true) }
+        ensures removed { OnOk result ((q : List ℕ) → is_removed self.old q ≡ false → is_removed self.new q ≡ false) }
         ensures in_place { OnOk result (AllByRecursion IsInPlace self.old → is_in_place path ≡ true → AllByRecursion IsInPlace self.new) }
         ensures kept { OnOk result (AllByRecursion IsKept self.old → is_file_place (parts path) ≡ true → AllByRecursion IsKept self.new) }
         ensures err { OnErr result (self.new ≡ self.old) }
     {
-        self.set(Write::Put { path, bytes })
+        self.set(Write::Put { path, bytes })?;
+        Ok(())
     }
 
     /// The file is to be removed, if it is there by then. At Err the draft is as it was.
@@ -141,6 +146,8 @@ impl Draft {
         ensures writes { OnOk result (self.new ≡ with_write self.old (Write.Remove path)) }
         ensures done { OnOk result ((w : World) → written w self.new ≡ map.remove (written w self.old) path) }
         ensures named { OnOk result ((q : List ℕ) → is_written self.new q ≡ (is_written self.old q || eq_by_cmp path_cmp q path)) }
+        ensures free { OnOk result ((w : World) → are_free w self.old ≡ true → are_free w self.new ≡ true) }
+        ensures removed { OnOk result ((q : List ℕ) → is_removed self.old q ≡ false → eq_by_cmp path_cmp q path ≡ false → is_removed self.new q ≡ false) }
         ensures in_place { OnOk result (AllByRecursion IsInPlace self.old → is_in_place path ≡ true → AllByRecursion IsInPlace self.new) }
         ensures kept { OnOk result (AllByRecursion IsKept self.old → is_file_place (parts path) ≡ true → AllByRecursion IsKept self.new) }
         ensures err { OnErr result (self.new ≡ self.old) }

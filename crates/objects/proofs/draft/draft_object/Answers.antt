@@ -1,4 +1,8 @@
-use Rattle.std.proofs.Common.{ap, sym, ◌∙◌}
+use Rattle.std.proofs.Common.{◌≡◌, true, List, ℕ, ap, sym, subst, ◌∙◌}
+use Rattle.seq_base.specs.Paths.{parts}
+use Rattle.seq_base.specs.Repository.{is_file_place}
+use Rattle.seq_base.proofs.Repositories.{kept_is_free}
+use Rattle.seq_outside.specs.Drafts.{is_removed}
 use Rattle.std.specs.FinMap as map
 use Rattle.std.specs.Ordering.{eq_by_cmp}
 use Rattle.seq_base.specs.World.{path_cmp}
@@ -26,3 +30,9 @@ returns-in_ok-put-in-None-clause-drafted g c told =
 
 pub returns-in_ok-put-in-None-clause-named : goal.returns-in_ok-put-in-None-clause-named
 returns-in_ok-put-in-None-clause-named g c q other = neither_new _ (is_written c.args.draft.now q) _ (c.in_ok-put-in-None.ensures.named q) (ap (eq_by_cmp path_cmp q) (c.from_vec.ensures ∙ c.in_ok-path.ensures.path) ∙ other)
+
+pub returns-in_ok-put-in-None-clause-free : goal.returns-in_ok-put-in-None-clause-free
+returns-in_ok-put-in-None-clause-free g c w free repository unremoved =
+    let path = c.from_vec.ensures ∙ c.in_ok-path.ensures.path in
+    let place = subst (λ (p : List ℕ). is_file_place (parts p) ≡ true) (sym c.from_vec.ensures) c.in_ok-path.ensures.kept in
+    c.in_ok-put-in-None.ensures.free w free (ap (is_removed c.args.draft.now) path ∙ unremoved) (kept_is_free (written w c.args.draft.now) c.from_vec.result repository place)
