@@ -36,9 +36,9 @@ fn has(map: &PathMap, n: usize, path: &[u8], mode: Mode, id: Id) -> bool {
     }
 }
 
-fn is_bad(found: Result<PathMap, TreeFault>, id: Id) -> bool {
+fn is_bad(found: &Result<PathMap, TreeFault>, id: Id) -> bool {
     match found {
-        Err(TreeFault::BadObject { id: bad }) => bad == id,
+        Err(TreeFault::BadObject { id: bad }) => *bad == id,
         _ => false,
     }
 }
@@ -91,7 +91,7 @@ fn a_tree_does_not_lead_into_dot_git(rt: HostRuntime) -> Result<(), Fail> {
     let mut store = QuietStore::new(alloc, &[])?;
     let tree = put_tree(alloc, &mut store, &[(b"100644 .GIT", id(HELLO)?)])?;
     assert!(rt; tree == id(b"b25cd6bd29d1cda1e58a3cc59be11d55c5785514")?);
-    assert!(rt; is_bad(read_map(alloc, &mut store, tree), tree));
+    assert!(rt; is_bad(&read_map(alloc, &mut store, tree), tree));
     Ok(())
 }
 
@@ -107,13 +107,13 @@ fn the_first_bad_tree_is_blamed(rt: HostRuntime) -> Result<(), Fail> {
         &mut store,
         &[(b"40000 a", missing), (b"40000 b", other)],
     )?;
-    assert!(rt; is_bad(read_map(alloc, &mut store, tree), missing));
+    assert!(rt; is_bad(&read_map(alloc, &mut store, tree), missing));
     let bad = put_tree(
         alloc,
         &mut store,
         &[(b"40000 a", missing), (b"100644 \xff", other)],
     )?;
-    assert!(rt; is_bad(read_map(alloc, &mut store, bad), bad));
+    assert!(rt; is_bad(&read_map(alloc, &mut store, bad), bad));
     Ok(())
 }
 
@@ -124,7 +124,7 @@ fn an_object_of_another_kind_is_no_tree(rt: HostRuntime) -> Result<(), Fail> {
     let blob = put(alloc, &mut store, Kind::Blob, b"")
         .ok()
         .ok_or("not put")?;
-    assert!(rt; is_bad(read_map(alloc, &mut store, blob), blob));
+    assert!(rt; is_bad(&read_map(alloc, &mut store, blob), blob));
     Ok(())
 }
 
