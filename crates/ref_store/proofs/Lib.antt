@@ -1,0 +1,4 @@
+pub mod Moving
+pub mod Freeing
+pub mod Kept
+pub mod Writing
