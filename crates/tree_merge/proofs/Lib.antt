@@ -7,3 +7,5 @@ pub mod InOrder
 pub mod Clashes
 pub mod Marking
 pub mod Apart
+pub mod Taking
+pub mod Files

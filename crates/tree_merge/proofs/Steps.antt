@@ -123,7 +123,7 @@ behind_append : (p : List ℕ) (xs ys : Entries) → Behind p xs → Behind p ys
 behind_append p [] ys g h = h
 behind_append p (x ∷ xs) ys g h = (g.0, behind_append p xs ys g.1 h)
 
-entry_after : (p q : List ℕ) (es : Entries) → is_less p q ≡ true → entry_at es q ≡ entry_at (after es p) q
+pub entry_after : (p q : List ℕ) (es : Entries) → is_less p q ≡ true → entry_at es q ≡ entry_at (after es p) q
 entry_after p q [] l = refl
 entry_after p q (e ∷ es) l = at (bytes_eq e.0 p) refl
   where
@@ -170,6 +170,11 @@ pub record InOrder (b o t : Entries) : Type 0 where
 -- what one step leaves
 pub record Stepped (b o t : Entries) (p : List ℕ) : Type 0 where
   pub rows : listed b o t ≡ with_row (row_of p (head_entry b p) (head_entry o p) (head_entry t p)) (listed (after b p) (after o p) (after t p))
+  pub paths : paths_of (b ++ o ++ t) ≡ p ∷ paths_of (after b p ++ after o p ++ after t p)
+  pub behind : AllByRecursion (λ q. is_less p q ≡ true) (paths_of (after b p ++ after o p ++ after t p))
+  pub base : entry_at b p ≡ head_entry b p
+  pub ours : entry_at o p ≡ head_entry o p
+  pub theirs : entry_at t p ≡ head_entry t p
   pub order : InOrder (after b p) (after o p) (after t p)
   pub smaller : length (after b p) + length (after o p) + length (after t p) < length b + length o + length t
 
@@ -199,6 +204,11 @@ step b o t p h e =
       rows = ap (λ (ps : List (List ℕ)). filter is_listed (map (row_at b o t) ps)) paths
           ∙ ap (λ (rs : List Planned). with_row (row_at b o t p) (filter is_listed rs)) (rows_after b o t p (paths_of left) behind)
           ∙ ap (λ (r : Planned). with_row r (listed (after b p) (after o p) (after t p))) row;
+      paths = paths;
+      behind = behind;
+      base = hb.entry;
+      ours = ho.entry;
+      theirs = ht.entry;
       order = record { base = ascending_after p b h.base; ours = ascending_after p o h.ours; theirs = ascending_after p t h.theirs };
       smaller = elim l.among as (λ _. length (after b p) + length (after o p) + length (after t p) < length b + length o + length t) [
         | inl g ↦ omega (arith, length_after_head p b g, length_after p o, length_after p t)

@@ -4,6 +4,7 @@
 mod clash;
 mod cursor;
 mod laws;
+mod merged;
 mod plans;
 mod rules;
 #[cfg(test)]
@@ -14,5 +15,6 @@ pub use laws::{
     an_unchanged_side_yields, results_without_clash_are_apart, sameness_is_equality,
     sides_can_be_exchanged,
 };
+pub use merged::{conflict, merged_map};
 pub use plans::{MergePlan, Planned, PlannedPaths, plan};
 pub use rules::{Choice, three_way};

@@ -2,7 +2,7 @@
 
 ghost use Rattle.std.specs.Prelude.{◌≡◌};
 
-use crate::{Choice, Planned, plan, three_way};
+use crate::{Choice, Planned, conflict as conflict_of, merged_map, plan, three_way};
 use seq_base::{Entry, Id, Mode, Path, PathMap};
 use std::alloc::Global;
 use std::test::Fail;
@@ -101,5 +101,86 @@ fn plans_a_file_against_a_folder(rt: HostRuntime) -> Result<(), Fail> {
     assert!(rt; is_row(&rows[0], b"a", conflict(file(2)), true, false));
     assert!(rt; is_row(&rows[1], b"a!", Choice::Take(file(5)), false, true));
     assert!(rt; is_row(&rows[2], b"a/b", Choice::Take(file(3)), true, true));
+    Ok(())
+}
+
+fn has_entries(map: &PathMap, want: &[(&[u8], Entry)]) -> bool {
+    for (n, (path, entry)) in want.iter().enumerate() {
+        let Some((found, held)) = map.at(n) else {
+            return false;
+        };
+        if found.bytes() != *path || held != *entry {
+            return false;
+        }
+    }
+    map.len() == want.len()
+}
+
+/// What `merge-tree --write-tree` made of three commits: `gone` is removed by theirs, `other` and `x` are changed by it (`x` has
+/// ours' mode), `e/new` is added by it, `added` by ours, and `d/both` is changed by both alike.
+#[test]
+fn merges_maps_as_git_does(rt: HostRuntime) -> Result<(), Fail> {
+    let alloc = rt.alloc();
+    let base = map_of(
+        alloc,
+        &[
+            (b"d/both", 1),
+            (b"gone", 1),
+            (b"mine", 1),
+            (b"other", 1),
+            (b"same", 1),
+            (b"x", 1),
+        ],
+    )?;
+    let mut ours = map_of(
+        alloc,
+        &[
+            (b"added", 5),
+            (b"d/both", 3),
+            (b"gone", 1),
+            (b"mine", 2),
+            (b"other", 1),
+            (b"same", 1),
+        ],
+    )?;
+    ours.insert(Path::new(alloc, b"x")?, entry(Mode::Exec, 1))?;
+    let theirs = map_of(
+        alloc,
+        &[
+            (b"d/both", 3),
+            (b"e/new", 4),
+            (b"mine", 1),
+            (b"other", 2),
+            (b"same", 1),
+            (b"x", 2),
+        ],
+    )?;
+    let made = plan(alloc, &base, &ours, &theirs)?;
+    assert!(rt; conflict_of(made.paths.as_slice()).is_none());
+    let merged = merged_map(alloc, &base, &ours, &theirs)?;
+    let want: [(&[u8], Entry); 7] = [
+        (b"added", entry(Mode::File, 5)),
+        (b"d/both", entry(Mode::File, 3)),
+        (b"e/new", entry(Mode::File, 4)),
+        (b"mine", entry(Mode::File, 2)),
+        (b"other", entry(Mode::File, 2)),
+        (b"same", entry(Mode::File, 1)),
+        (b"x", entry(Mode::Exec, 2)),
+    ];
+    assert!(rt; has_entries(&merged, &want));
+    Ok(())
+}
+
+/// `merge-tree` names `d`, which theirs removed, before `e`, which both changed; `c`, which ours left as it was, merges.
+#[test]
+fn finds_the_first_conflict(rt: HostRuntime) -> Result<(), Fail> {
+    let base = map_of(rt.alloc(), &[(b"c", 1), (b"d", 1), (b"e", 1)])?;
+    let ours = map_of(rt.alloc(), &[(b"c", 1), (b"d", 2), (b"e", 2)])?;
+    let theirs = map_of(rt.alloc(), &[(b"c", 2), (b"e", 3)])?;
+    let made = plan(rt.alloc(), &base, &ours, &theirs)?;
+    match conflict_of(made.paths.as_slice()) {
+        Some(row) => assert!(rt; row.path.bytes() == b"d".as_slice()),
+        None => assert!(rt; false),
+    }
     Ok(())
 }

@@ -4,7 +4,7 @@ ghost use Rattle.std.specs.Prelude.{◌≡◌, IfOk, OnOk};
 ghost use Rattle.std.specs.Option.{option_copied};
 ghost use Rattle.seq_base.specs.PathMaps.{is_less};
 ghost use Rattle.tree_merge.specs.Plans.{AreInOrder, is_listed, is_present, listed, row_of};
-ghost use Rattle.tree_merge.specs.Walks.{lesser};
+ghost use Rattle.tree_merge.specs.Walks.{head_path, lesser};
 
 use crate::cursor::Cursor;
 use crate::plans::Planned;
@@ -27,10 +27,7 @@ pub(crate) fn listed_rows(
     let mut base_left = Cursor::new(base);
     let mut ours_left = Cursor::new(ours);
     let mut theirs_left = Cursor::new(theirs);
-    while let Some(path) = lesser_path(
-        lesser_path(base_left.first(), ours_left.first()),
-        theirs_left.first(),
-    ) {
+    while let Some(path) = least_path(&base_left, &ours_left, &theirs_left) {
         let row = row(
             copy_of(path)?,
             base_left.take(path),
@@ -44,10 +41,21 @@ pub(crate) fn listed_rows(
     Ok(rows)
 }
 
-fn copy_of(path: &Path) -> Result<Path, AllocError>
+pub(crate) fn copy_of(path: &Path) -> Result<Path, AllocError>
     ensures { IfOk result (λ copy. copy ≡ path.now) }
 {
     path.clone()
+}
+
+/// The least of the first paths.
+pub(crate) fn least_path<'a>(
+    base: &Cursor<'a>,
+    ours: &Cursor<'a>,
+    theirs: &Cursor<'a>,
+) -> Option<&'a Path>
+    ensures { option_copied result ≡ lesser (lesser (head_path base.now) (head_path ours.now)) (head_path theirs.now) }
+{
+    lesser_path(lesser_path(base.first(), ours.first()), theirs.first())
 }
 
 fn lesser_path<'a>(a: Option<&'a Path>, b: Option<&'a Path>) -> Option<&'a Path>
