@@ -37,7 +37,10 @@ fn judge<S: Store, C: Clock>(
             match pick(alloc, env.vars.as_slice(), word, store) {
                 Ok(id) => Outcome::Done { head: Some(id) },
                 Err(Halt::Denied(Denial::Refused(refusal))) => Outcome::Refused(refusal),
-                Err(Halt::Denied(Denial::Limit { what, number })) => Outcome::Limit { what, number },
+                Err(Halt::Denied(Denial::Limit { what, number })) => Outcome::Limit {
+                    what,
+                    number,
+                },
                 Err(Halt::Fault) => Outcome::StoreFault,
                 Err(Halt::Memory) => Outcome::Memory,
             }

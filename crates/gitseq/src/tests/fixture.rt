@@ -7,12 +7,17 @@ use std::alloc::{AllocError, Global};
 use std::test::Fail;
 
 pub const BASE: &str = "707c9d7e85ee1dadefb4126526c528e4e8a093f2";
+
 pub const ADD_B: &str = "063e68e4d0d70bddbb9e204763cae96183b574ca";
+
 pub const A_IS_3: &str = "c1a95a90e3716da8841d8e5b5f15609729b31bf1";
 
 /// The index that Git writes of `add c`, and of `a is 2`.
-pub const INDEX: &[u8] = b"DIRC\0\0\0\x02\0\0\0\x02\0\0\0\0\0\0\0\0\0\0\0\0\0\0\0\0\0\0\0\0\0\0\0\0\0\0\x81\xa4\0\0\0\0\0\0\0\0\0\0\0\0\xce\x016%\x03\x0b\xa8\xdb\xa9\x06\xf7V\x96\x7f\x9e\x9c\xa3\x94FJ\0\x01a\0\0\0\0\0\0\0\0\0\0\0\0\0\0\0\0\0\0\0\0\0\0\0\0\0\0\0\x81\xa4\0\0\0\0\0\0\0\0\0\0\0\0\xce\x016%\x03\x0b\xa8\xdb\xa9\x06\xf7V\x96\x7f\x9e\x9c\xa3\x94FJ\0\x01c\0~T(@OuX\x05\xc7\xc0\xb7j,=\x9d\xdf\x1b| \xcb";
-pub const INDEX_OF_2: &[u8] = b"DIRC\0\0\0\x02\0\0\0\x02\0\0\0\0\0\0\0\0\0\0\0\0\0\0\0\0\0\0\0\0\0\0\0\0\0\0\x81\xa4\0\0\0\0\0\0\0\0\0\0\0\0\x0c\xfb\xf0\x88\x86\xfc\xa9\xa9\x1c\xb7S\xec\x874\xc8O\xcb\xe5,\x9f\0\x01a\0\0\0\0\0\0\0\0\0\0\0\0\0\0\0\0\0\0\0\0\0\0\0\0\0\0\0\x81\xa4\0\0\0\0\0\0\0\0\0\0\0\0\xce\x016%\x03\x0b\xa8\xdb\xa9\x06\xf7V\x96\x7f\x9e\x9c\xa3\x94FJ\0\x01c\0|w^:b:pJ\xd5\xbcT_\xfb[O\xbce\x8b\x1a\xfd";
+pub const INDEX: &[u8] =
+    b"DIRC\0\0\0\x02\0\0\0\x02\0\0\0\0\0\0\0\0\0\0\0\0\0\0\0\0\0\0\0\0\0\0\0\0\0\0\x81\xa4\0\0\0\0\0\0\0\0\0\0\0\0\xce\x016%\x03\x0b\xa8\xdb\xa9\x06\xf7V\x96\x7f\x9e\x9c\xa3\x94FJ\0\x01a\0\0\0\0\0\0\0\0\0\0\0\0\0\0\0\0\0\0\0\0\0\0\0\0\0\0\0\x81\xa4\0\0\0\0\0\0\0\0\0\0\0\0\xce\x016%\x03\x0b\xa8\xdb\xa9\x06\xf7V\x96\x7f\x9e\x9c\xa3\x94FJ\0\x01c\0~T(@OuX\x05\xc7\xc0\xb7j,=\x9d\xdf\x1b| \xcb";
+
+pub const INDEX_OF_2: &[u8] =
+    b"DIRC\0\0\0\x02\0\0\0\x02\0\0\0\0\0\0\0\0\0\0\0\0\0\0\0\0\0\0\0\0\0\0\0\0\0\0\x81\xa4\0\0\0\0\0\0\0\0\0\0\0\0\x0c\xfb\xf0\x88\x86\xfc\xa9\xa9\x1c\xb7S\xec\x874\xc8O\xcb\xe5,\x9f\0\x01a\0\0\0\0\0\0\0\0\0\0\0\0\0\0\0\0\0\0\0\0\0\0\0\0\0\0\0\x81\xa4\0\0\0\0\0\0\0\0\0\0\0\0\xce\x016%\x03\x0b\xa8\xdb\xa9\x06\xf7V\x96\x7f\x9e\x9c\xa3\x94FJ\0\x01c\0|w^:b:pJ\xd5\xbcT_\xfb[O\xbce\x8b\x1a\xfd";
 
 const OBJECTS: [(&str, &[u8]); 18] = [
     (

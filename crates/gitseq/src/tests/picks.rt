@@ -79,10 +79,7 @@ fn what_is_not_taken_yet_is_not_built(rt: HostRuntime) -> Result<(), Fail> {
         (".git/config", b"[core]\n"),
         (".git/packed-refs", b""),
         (".git/hooks/pre-commit", b""),
-        (
-            ".git/HEAD",
-            b"d121e10699140c3fa862544172d391513c3337cf\n",
-        ),
+        (".git/HEAD", b"d121e10699140c3fa862544172d391513c3337cf\n"),
         (".git/HEAD", b"ref: refs/heads/a/b\n"),
         (".git/refs/heads/master", b"d121\n"),
     ] {
@@ -108,9 +105,23 @@ fn words_that_are_not_taken_yet_are_not_built(rt: HostRuntime) -> Result<(), Fai
 fn bad_objects_are_named(rt: HostRuntime) -> Result<(), Fail> {
     let alloc = rt.alloc();
     let missing = "1234567890123456789012345678901234567890";
-    assert!(rt; prints(alloc, &[], missing, "refused bad-object 1234567890123456789012345678901234567890\n")?);
+    assert!(rt;
+        prints(
+            alloc,
+            &[],
+            missing,
+            "refused bad-object 1234567890123456789012345678901234567890\n"
+        )?
+    );
     let blob = "ce013625030ba8dba906f756967f9e9ca394464a";
-    assert!(rt; prints(alloc, &[], blob, "refused bad-object ce013625030ba8dba906f756967f9e9ca394464a\n")?);
+    assert!(rt;
+        prints(
+            alloc,
+            &[],
+            blob,
+            "refused bad-object ce013625030ba8dba906f756967f9e9ca394464a\n"
+        )?
+    );
     let tree = ".git/objects/2f/3f2bfbfdd99b445e3e70f6ce20c241282d900d";
     let refused = "refused bad-object 2f3f2bfbfdd99b445e3e70f6ce20c241282d900d\n";
     assert!(rt; prints(alloc, &[(tree, b"blob 0\0")], ADD_B, refused)?);
@@ -133,7 +144,14 @@ fn changes_and_conflicts_are_refused(rt: HostRuntime) -> Result<(), Fail> {
     let index = (".git/index", INDEX_OF_2);
     let a = ("a", b"2\n".as_slice());
     assert!(rt; prints(alloc, &[tip, index, a], A_IS_3, "refused conflict a\n")?);
-    assert!(rt; prints(alloc, &[tip, index, a, changed], A_IS_3, "refused dirty c\n")?);
+    assert!(rt;
+        prints(
+            alloc,
+            &[tip, index, a, changed],
+            A_IS_3,
+            "refused dirty c\n"
+        )?
+    );
     assert!(rt; prints(alloc, &[tip, a], A_IS_3, "refused dirty a\n")?);
     Ok(())
 }

@@ -61,7 +61,9 @@ fn branch_on(line: &[u8]) -> Option<&[u8]>
     ensures means { option_map (λ name. name.now) result ≡ branch_of_line line.now }
     ensures name { IfSome result (λ name. is_ref_name_of name.now ≡ true) }
 {
-    if line.starts_with(b"ref: refs/heads/") && is_one_part(&line[16..]) && is_ref_name(&line[5..])
+    if line.starts_with(b"ref: refs/heads/")
+        && is_one_part(&line[16..])
+        && is_ref_name(&line[5..])
     {
         Some(&line[5..])
     } else {
