@@ -9,12 +9,13 @@ use Rattle.grammar.specs.declared.fault.ReadError.TheVariants as errors
 use Rattle.grammar.specs.Readers.{◌>>=◌, End, end_at, star_at}
 use Rattle.grammar.specs.Lines.{IsFirstBadLine, line_of_place}
 use Rattle.grammar.proofs.LineLaws.{first_bad_line}
-use Rattle.grammar.proofs.Top.{first_bad}
+use Rattle.grammar.proofs.Top.{first_bad, read_whole}
 use Rattle.grammar.proofs.StarLoops.{Loop, loop_none, loop_more, loop_err, loop_last}
-use Rattle.ref_text.specs.Packed.{IsPacked}
+use Rattle.ref_text.specs.Packed.{IsPacked, packed_text}
 use Rattle.ref_text.specs.ReadLogs.{any_byte}
 use Rattle.ref_text.specs.ReadPacked.{Ref, next_after, packed_from, packed_line_from, refs_of}
 use Rattle.ref_text.proofs.LogLoops.{all_bytes, begins_rest}
+use Rattle.ref_text.proofs.PackedTexts.{packed_refs, packed_spells}
 use Rattle.ref_text.proofs.PackedLaws.{AnyState, EachLine, packed_reads, packed_star}
 
 abbrev total : List ℕ → Result (List (Option Ref) × Unit {0}) ℕ
@@ -71,6 +72,14 @@ packed_done bytes refs after [] none l =
     (loop_last AnyState any_byte next_after EachLine (λ s. End) packed_line_from (λ s rest. end_at rest) packed_star (total bytes) l.0 after [] refl l.1)
     ∙ ap (λ (xs : List (Option Ref)). Ok (refs_of xs)) (append-nil l.0) ∙ ap (λ (rs : List Ref). Ok rs) (sym l.2)
 packed_done bytes refs after (b ∷ rest) none l = let k = eqb-true (suc (length rest)) 0 none in absurd (omega arith)
+
+-- ---- what is written
+
+pub written_again : (refs : List Ref) (text : List ℕ) → IsPacked refs text → IsPacked refs (packed_text refs)
+written_again refs text h = packed_spells refs (packed_refs false refs h.lines h.are_lines)
+
+pub no_others : (refs others : List Ref) (text : List ℕ) → IsPacked refs text → IsPacked others text → others ≡ refs
+no_others refs others text h g = (read_whole IsPacked packed_from packed_reads text refs (packed_reads.again refs text h)).1 others g
 
 -- the line of a fault
 pub bad_packed_line : (text : List ℕ) (left : ℕ) → ((k : ℕ) → get_or text k 0 < 256) → packed_from text ≡ Err left → IsFirstBadLine IsPacked text (line_of_place (length text - left) text)

@@ -18,3 +18,5 @@ pub use read_packed::parse_packed;
 
 #[cfg(test)]
 mod log_tests;
+#[cfg(test)]
+mod packed_tests;

@@ -5,7 +5,7 @@ ghost use Rattle.grammar.specs.Gives.{Gives};
 ghost use Rattle.grammar.specs.Grammar.{IsReading};
 ghost use Rattle.grammar.specs.Readers.{begins, valued_at};
 ghost use Rattle.ref_text.specs.Faults.{IsLineFault};
-ghost use Rattle.ref_text.specs.Packed.{IsPacked};
+ghost use Rattle.ref_text.specs.Packed.{ArePackedNames, IsPacked};
 ghost use Rattle.ref_text.specs.ReadLogs.{AreDigits, id_of as id_of_digits};
 ghost use Rattle.ref_text.specs.ReadPacked.{at_name, behind_all, comment_from, may_name, name_value, named_from, packed_from, packed_line_from, peeled_from};
 
@@ -148,7 +148,8 @@ fn refs_of(alloc: Global, text: &[u8]) -> Result<Vec<(Bytes, Id)>, ReadError>
 /// to. Digits stand in either case. Bad where it is none, with the first line with which no such file goes on, counted from 1, or
 /// the last one where the text ends too early (git-pack-refs(1); gitrepository-layout(5), "packed-refs").
 pub fn parse_packed(alloc: Global, text: &[u8]) -> Result<Vec<(Bytes, Id)>, LineFault>
-    ensures { IsReading (λ v. v.items) (IsLineFault IsPacked text.now) IsPacked text.now result }
+    ensures read { IsReading (λ v. v.items) (IsLineFault IsPacked text.now) IsPacked text.now result }
+    ensures names { IfOk result (λ v. ArePackedNames v.items) }
 {
     match refs_of(alloc, text) {
         Ok(refs) => Ok(refs),
