@@ -4,3 +4,7 @@ pub mod PackedTexts
 pub mod RefLaws
 pub mod LogLaws
 pub mod LogLoops
+pub mod Choices
+pub mod PackedNames
+pub mod PackedLaws
+pub mod PackedLoops

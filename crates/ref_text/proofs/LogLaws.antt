@@ -22,7 +22,7 @@ use Rattle.ident_text.proofs.IdentLaws.{has_then, ident_has, ident_reads, nothin
 use Rattle.seq_base.specs.Ids.{SpellsId}
 use Rattle.ref_text.specs.declared.log.LogLine.{LogLine}
 use Rattle.ref_text.specs.Logs.{IsLog, IsLogLine, SpellsOld, line_of_fields, zeros}
-use Rattle.ref_text.specs.ReadLogs.{AreDigits, any_byte, digits_from, id_of, in_message, kept, line_from, log_from, made, old_of, who_from}
+use Rattle.ref_text.specs.ReadLogs.{AreDigits, any_byte, digits_from, id_of, in_line, kept, line_from, log_from, made, old_of, who_from}
 
 -- ---- ids
 
@@ -51,13 +51,13 @@ spelled_old None x h = (subst AreDigits (sym h) (record { forty = refl; hex = re
 spelled_old (Some id) x h = (spelled_digits id x h.0, cond-false (bytes_eq x zeros) None (Some (id_of x)) (false_from_ne_true (bytes_eq x zeros) (λ is. h.1 ((bytes_eq-Decides x zeros).0 is))) ∙ ap (λ (i : List ℕ). Some i) (spelled_id id x h.0))
 
 -- digits, and the SP behind them
-abbrev Digits : List ℕ → List ℕ → Type 0
+abbrev pub Digits : List ℕ → List ℕ → Type 0
 Digits x text = AreDigits x × (text ≡ x ++ 32 ∷ [])
 
 abbrev AtSpace : List ℕ → List ℕ → List ℕ → Type 0
 AtSpace x = Then (Literal (32 ∷ [])) (λ _. Nothing x)
 
-one_byte : (b : ℕ) → b < 256 → AllBytes (b ∷ [])
+pub one_byte : (b : ℕ) → b < 256 → AllBytes (b ∷ [])
 one_byte b h = (h, tt)
 
 digits_to : (x text : List ℕ) → Then (Passing is_hex_digit 40) AtSpace x text → Digits x text
@@ -72,7 +72,7 @@ digits_to x text g =
 space_has : (x : List ℕ) → HasText (AtSpace x)
 space_has x = has_then (Literal (32 ∷ [])) (λ _. Nothing x) (literal_has (32 ∷ []) (one_byte 32 (omega arith))) (λ _. nothing_has x)
 
-digits_reads : Reads Digits digits_from
+pub digits_reads : Reads Digits digits_from
 unfolding digits_from
 digits_reads = reads_same (Then (Passing is_hex_digit 40) AtSpace) Digits digits_from digits_to
     (λ x text g. (x, x, 32 ∷ [], (g.0.forty, g.0.hex, refl), (tt, 32 ∷ [], [], refl, (refl, refl), refl), g.1))
@@ -81,7 +81,7 @@ digits_reads = reads_same (Then (Passing is_hex_digit 40) AtSpace) Digits digits
     (λ x text g. then_reads (Literal (32 ∷ [])) (λ _. Nothing x) (literal_at (32 ∷ [])) (λ _. nothing_at x) (literal_reads (32 ∷ []) (one_byte 32 (omega arith))) (λ _ t h. nothing_reads x) (λ _ t h. nothing_has x))
     (λ x text g. space_has x))
 
-digits_have : HasText Digits
+pub digits_have : HasText Digits
 digits_have = let h = has_then (Passing is_hex_digit 40) AtSpace (passing_has is_hex_digit 48 (omega arith) refl 40) space_has in (h.0, h.1, h.2, digits_to h.0 h.1 h.3)
 
 -- ---- who
@@ -118,7 +118,7 @@ who_has = let h = has_then (TextOf IsIdent) AtTab (text_has IsIdent ident_has) (
 -- ---- a line
 
 abbrev AtMessage : List ℕ → List ℕ → List ℕ → LogLine → List ℕ → Type 0
-AtMessage old new ident = Then (Run in_message 10) (λ message. Nothing (made old new ident message))
+AtMessage old new ident = Then (Run in_line 10) (λ message. Nothing (made old new ident message))
 
 abbrev AtWho : List ℕ → List ℕ → LogLine → List ℕ → Type 0
 AtWho old new = Then Who (λ ident. AtMessage old new ident)
@@ -130,7 +130,7 @@ abbrev Line : LogLine → List ℕ → Type 0
 Line = Then Digits (λ old. AtNew old)
 
 message_has : (old new ident : List ℕ) → HasText (AtMessage old new ident)
-message_has old new ident = has_then (Run in_message 10) (λ message. Nothing (made old new ident message)) (run_has in_message 10 (omega arith)) (λ message. nothing_has (made old new ident message))
+message_has old new ident = has_then (Run in_line 10) (λ message. Nothing (made old new ident message)) (run_has in_line 10 (omega arith)) (λ message. nothing_has (made old new ident message))
 
 whos_have : (old new : List ℕ) → HasText (AtWho old new)
 whos_have old new = has_then Who (λ ident. AtMessage old new ident) who_has (message_has old new)
@@ -139,12 +139,12 @@ news_have : (old : List ℕ) → HasText (AtNew old)
 news_have old = has_then Digits (λ new. AtWho old new) digits_have (whos_have old)
 
 abbrev message_at : List ℕ → List ℕ → List ℕ → List ℕ → Result (LogLine × List ℕ) ℕ
-message_at old new ident = then_at (run_at in_message 10) (λ message. nothing_at (made old new ident message))
+message_at old new ident = then_at (run_at in_line 10) (λ message. nothing_at (made old new ident message))
 
 messages_read : (old new ident : List ℕ) → Reads (AtMessage old new ident) (message_at old new ident)
 messages_read old new ident =
-    then_reads (Run in_message 10) (λ message. Nothing (made old new ident message)) (run_at in_message 10) (λ message. nothing_at (made old new ident message))
-    (run_reads in_message 10 (omega arith) refl) (λ message t g. nothing_reads (made old new ident message)) (λ message t g. nothing_has (made old new ident message))
+    then_reads (Run in_line 10) (λ message. Nothing (made old new ident message)) (run_at in_line 10) (λ message. nothing_at (made old new ident message))
+    (run_reads in_line 10 (omega arith) refl) (λ message t g. nothing_reads (made old new ident message)) (λ message t g. nothing_has (made old new ident message))
 
 whos_read : (old new : List ℕ) → Reads (AtWho old new) (then_at who_from (λ ident. message_at old new ident))
 whos_read old new = then_reads Who (λ ident. AtMessage old new ident) who_from (λ ident. message_at old new ident) who_reads (λ ident t g. messages_read old new ident) (λ ident t g. message_has old new ident)
@@ -222,11 +222,11 @@ Each s x text = IsLogLine x text
 abbrev pub Good : Unit {0} → Type 0
 Good s = Unit {0}
 
-begins_any : (text : List ℕ) → 0 < length text → BeginsWith any_byte text
+pub begins_any : (text : List ℕ) → 0 < length text → BeginsWith any_byte text
 begins_any [] some = absurd (omega arith)
 begins_any (b ∷ text) some = refl
 
-ends_all : (text : List ℕ) → text ≡ [] → BeginsOtherwise any_byte text
+pub ends_all : (text : List ℕ) → text ≡ [] → BeginsOtherwise any_byte text
 ends_all [] none = tt
 ends_all (b ∷ text) none = absurd cc
 

@@ -40,7 +40,7 @@ total bytes = star_at any_byte kept (λ s. line_from) (λ s rest. end_at rest) (
 abbrev pub LogLoop : List ℕ → List LogLine → List ℕ → Type 0
 LogLoop bytes lines rest = Loop Good any_byte kept Each (λ s. End) (λ s. line_from) (λ s rest. end_at rest) is_star (star_at any_byte kept (λ s. line_from) (λ s rest. end_at rest) (length bytes) tt bytes) lines tt rest
 
-begins_rest : (rest : List ℕ) → eqb (length rest) 0 ≡ false → begins any_byte rest ≡ true
+pub begins_rest : (rest : List ℕ) → eqb (length rest) 0 ≡ false → begins any_byte rest ≡ true
 begins_rest [] some = absurd cc
 begins_rest (b ∷ rest) some = refl
 

@@ -32,6 +32,13 @@ packed_refs after (r ∷ refs) (comment text ∷ lines) h = packed_refs false (r
 packed_refs after (r ∷ refs) (peeled digits ∷ lines) h = packed_refs false (r ∷ refs) lines h.2
 packed_refs after (r ∷ refs) (named digits name ∷ lines) h = let id = id_size r.1 digits h.2 in (subst IsRefName (sym h.0) h.1, id.0, id.1, packed_refs true refs lines h.3)
 
+names_of : (refs : Refs) → ArePacked refs → ArePackedNames refs
+names_of [] h = tt
+names_of (r ∷ refs) h = (h.0, names_of refs h.3)
+
+pub names_told : (refs : Refs) (text : List ℕ) → IsPacked refs text → ArePackedNames refs
+names_told refs text h = names_of refs (packed_refs false refs h.lines h.are_lines)
+
 -- a line for each
 abbrev lines_of : Refs → List PackedLine
 lines_of refs = map (λ r. named (encode_lower r.1) r.0) refs

@@ -4,3 +4,4 @@ pub mod Logs
 pub mod Faults
 pub mod Refs
 pub mod ReadLogs
+pub mod ReadPacked

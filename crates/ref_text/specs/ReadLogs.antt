@@ -16,8 +16,8 @@ id_of digits = result_unwrap_or (decode_of digits) []
 abbrev pub old_of : List ℕ → Option (List ℕ)
 old_of digits = if bytes_eq digits zeros then None else Some (id_of digits)
 
-abbrev pub in_message : ℕ → Bool
-in_message b = not (b == 10)
+abbrev pub in_line : ℕ → Bool
+in_line b = not (b == 10)
 
 abbrev pub made : List ℕ → List ℕ → List ℕ → List ℕ → LogLine
 made old new ident message = record { old = old_of old; new = id_of new; ident = ident; message = message }
@@ -46,7 +46,7 @@ line_from bytes = do
   old ← digits_from bytes
   new ← digits_from old.1
   ident ← who_from new.1
-  message ← run_at in_message 10 ident.1
+  message ← run_at in_line 10 ident.1
   Ok (made old.0 new.0 ident.0 message.0, message.1)
 
 abbrev pub any_byte : ℕ → Bool

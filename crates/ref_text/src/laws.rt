@@ -4,6 +4,7 @@ ghost use Rattle.std.specs.Prelude.{◌≡◌, ◌≢◌, ◌⊎◌, List, None,
 ghost use Rattle.std.specs.FinMap as map;
 ghost use Rattle.seq_base.specs.RefNames.{IsRefName};
 ghost use Rattle.seq_base.specs.World.{World};
+ghost use Rattle.ref_text.specs.Packed.{IsPacked, packed_text as text_of_refs};
 ghost use Rattle.ref_text.specs.Refs.{PackedAt, RefAt, delete_ref, log_path, packed_path, ref_path, set_ref};
 
 use crate::log::LogLine;
@@ -29,4 +30,12 @@ pub fn deleted_name_has_no_value(name: &[u8], refs: &[(Bytes, Id)])
     requires packed { PackedAt w refs.now }
     ensures value { RefAt (delete_ref w refs.now name.now) name.now None }
     ensures elsewhere { (path : List ℕ) → path ≢ ref_path name.now → path ≢ packed_path → map.get (delete_ref w refs.now name.now) path ≡ map.get w path }
+{}
+
+/// The text that is written of the refs of some text spells these refs, and a text spells no others beside its own.
+#[tactic(auto, using(crate::proofs::PackedLoops::written_again))]
+pub fn packed_refs_read_back(text: &[u8], refs: &[(Bytes, Id)], others: &[(Bytes, Id)])
+    requires { IsPacked refs.now text.now }
+    ensures written { IsPacked refs.now (text_of_refs refs.now) }
+    ensures alone { IsPacked others.now text.now → others.now ≡ refs.now }
 {}

@@ -7,12 +7,16 @@ pub mod laws;
 mod log;
 mod packed;
 mod read_log;
+mod read_packed;
 
 pub use fault::{HeadFault, LineFault};
 pub use head::{Head, head_text, parse_head};
 pub use log::{LogLine, log_text};
 pub use packed::packed_text;
 pub use read_log::parse_log;
+pub use read_packed::parse_packed;
 
 #[cfg(test)]
 mod log_tests;
+#[cfg(test)]
+mod packed_tests;

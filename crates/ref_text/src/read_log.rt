@@ -6,7 +6,7 @@ ghost use Rattle.grammar.specs.Grammar.{IsReading};
 ghost use Rattle.hex.specs.Hex.{is_hex_digit};
 ghost use Rattle.ref_text.specs.Faults.{IsLineFault};
 ghost use Rattle.ref_text.specs.Logs.{IsLog};
-ghost use Rattle.ref_text.specs.ReadLogs.{AreDigits, digits_from, id_of as id_of_digits, in_message, line_from, log_from, made, old_of as old_of_digits, who_from};
+ghost use Rattle.ref_text.specs.ReadLogs.{AreDigits, digits_from, id_of as id_of_digits, in_line, line_from, log_from, made, old_of as old_of_digits, who_from};
 
 use crate::fault::LineFault;
 use crate::log::{LogLine, NO_VALUE};
@@ -16,7 +16,7 @@ use seq_base::{Bytes, Id};
 use std::alloc::{AllocError, Global};
 
 #[derive(Drop)]
-struct HexDigit;
+pub struct HexDigit;
 
 impl ByteTest for HexDigit {
     ghost passes = { λ _ b. is_hex_digit b };
@@ -27,10 +27,10 @@ impl ByteTest for HexDigit {
 }
 
 #[derive(Drop)]
-struct MessageByte;
+pub struct LineByte;
 
-impl ByteTest for MessageByte {
-    ghost passes = { λ _ b. in_message b };
+impl ByteTest for LineByte {
+    ghost passes = { λ _ b. in_line b };
 
     fn is_met(&self, byte: u8) -> bool {
         byte != b'\n'
@@ -48,7 +48,7 @@ struct Fields<'a> {
 
 /// Forty hex digits, and what is behind the SP that follows.
 #[tactic(auto, unfolding(crate::specs::ReadLogs::digits_from))]
-fn digits_of(bytes: &[u8]) -> Result<(&[u8], &[u8]), ReadError>
+pub fn digits_of(bytes: &[u8]) -> Result<(&[u8], &[u8]), ReadError>
     ensures read { Gives (λ x. (x.0.now, x.1.now)) result (digits_from bytes.now) }
     ensures digits { IfOk result (λ x. AreDigits x.0.now) }
 {
@@ -77,7 +77,7 @@ fn fields_of(bytes: &[u8]) -> Result<(Fields<'_>, &[u8]), ReadError>
     let (old, rest) = digits_of(bytes)?;
     let (new, rest) = digits_of(rest)?;
     let (ident, rest) = who_of(rest)?;
-    let (message, rest) = word_of(MessageByte, b'\n', rest)?;
+    let (message, rest) = word_of(LineByte, b'\n', rest)?;
     let fields = Fields {
         old,
         new,
@@ -88,7 +88,7 @@ fn fields_of(bytes: &[u8]) -> Result<(Fields<'_>, &[u8]), ReadError>
 }
 
 #[tactic(auto, using(crate::proofs::LogLaws::digits_spell, crate::proofs::LogLaws::spelled_id))]
-fn id_of(digits: &[u8]) -> Id
+pub fn id_of(digits: &[u8]) -> Id
     requires { AreDigits digits.now }
     ensures { result ≡ id_of_digits digits.now }
 {
