@@ -7,7 +7,6 @@ mod outcome;
 mod reason;
 mod refusal;
 mod stop;
-mod todo_kind;
 mod usage;
 
 pub use limit::LimitWhat;
@@ -15,5 +14,5 @@ pub use outcome::{Outcome, Paths};
 pub use reason::Reason;
 pub use refusal::Refusal;
 pub use stop::StopKind;
-pub use todo_kind::TodoKind;
+pub use todo_text::TodoKind;
 pub use usage::UsageFault;
