@@ -11,9 +11,7 @@ use Rattle.seq_base.specs.declared.map.Entry.{Entry}
 use Rattle.stage_index.specs.Changes.{dirty}
 use Rattle.stage_index.specs.Stages.{is_merged}
 use Rattle.tree_merge.specs.Plans.{Entries, plan_of}
-use Rattle.tree_merge.specs.declared.plans.Planned.{Planned}
-use Rattle.tree_merge.specs.declared.rules.Choice.{Choice}
-use Rattle.tree_merge.specs.declared.rules.Choice.TheVariants.{Take, Content, Conflict as Conflicting}
+use Rattle.tree_merge.specs.Results.{conflict_in}
 use Rattle.seq_model.specs.Branches.{head_text, branch_at, tip_of}
 use Rattle.seq_model.specs.Commits.{commit_named, commit_map, map_named, only_parent}
 use Rattle.seq_model.specs.Committers.{committer_in}
@@ -39,16 +37,6 @@ index_named w = do
   entries ← or_bad_index (index_at w)
   few ← deny_if (nat_lt index_limit (length entries)) (Limit IndexEntries (length entries))
   Ok entries
-
--- an entry, or none, is taken
-abbrev pub is_taken : Choice → Bool
-is_taken (Take entry) = true
-is_taken (Content mode clean) = false
-is_taken (Conflicting file) = false
-
--- the first path of a plan that conflicts
-unfoldable pub conflict_in : List Planned → Option (List ℕ)
-conflict_in rows = option_map (λ row. row.path) (find (λ row. row.clash || not (is_taken row.choice)) rows)
 
 -- no path conflicts
 unfoldable pub conflict_free : Entries → Entries → Entries → Result (Unit {0}) Denial

@@ -1,7 +1,7 @@
 -- The names of what is wrong with a line of the todo.
 use Rattle.std.specs.Prelude.{ℕ, List, codes}
-use Rattle.seq_model.specs.declared.todo_kind.TodoKind.{TodoKind}
-use Rattle.seq_model.specs.declared.todo_kind.TodoKind.TheVariants.{Command, Missing, Extra, Label, RefName, Octopus, NoEarlier, NoSuchCommit, MergePicked, OwnBranch}
+use Rattle.todo_text.specs.declared.todo_kind.TodoKind.{TodoKind}
+use Rattle.todo_text.specs.declared.todo_kind.TodoKind.TheVariants.{Command, Missing, Extra, Label, RefName, Octopus, NoEarlier, NoSuchCommit, MergePicked, OwnBranch, NotBuilt}
 
 abbrev pub todo_kind_name : TodoKind → List ℕ
 todo_kind_name Command = codes "command"
@@ -14,3 +14,4 @@ todo_kind_name NoEarlier = codes "no-earlier"
 todo_kind_name NoSuchCommit = codes "no-such-commit"
 todo_kind_name MergePicked = codes "merge-picked"
 todo_kind_name OwnBranch = codes "own-branch"
+todo_kind_name NotBuilt = codes "not-built"

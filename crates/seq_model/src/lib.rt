@@ -9,7 +9,6 @@ mod outcome;
 mod reason;
 mod refusal;
 mod stop;
-mod todo_kind;
 mod usage;
 
 pub use committer::Committer;
@@ -19,5 +18,5 @@ pub use outcome::{Outcome, Paths};
 pub use reason::Reason;
 pub use refusal::Refusal;
 pub use stop::StopKind;
-pub use todo_kind::TodoKind;
+pub use todo_text::TodoKind;
 pub use usage::UsageFault;

@@ -1,9 +1,9 @@
 //! Why an invocation is refused.
 
-use crate::todo_kind::TodoKind;
 use index_file::IndexFault;
 use seq_base::{Bytes, Id};
 use seq_outside::Exit;
+use todo_text::TodoKind;
 
 /// Why an invocation is refused. What is refused leaves the repository as it was.
 #[derive(Drop)]

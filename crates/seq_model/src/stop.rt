@@ -1,9 +1,9 @@
 //! Why a list stops.
 
 use crate::reason::Reason;
-use crate::todo_kind::TodoKind;
 use seq_base::{Bytes, Id};
 use seq_outside::Exit;
+use todo_text::TodoKind;
 
 /// Why a list of lines stops before its end, to be continued by a later invocation.
 #[derive(Drop)]

@@ -1,9 +1,8 @@
 //! The merge of a commit's change into HEAD's map.
 
 ghost use Rattle.std.specs.Prelude.{◌≡◌, IsErrOf};
-ghost use Rattle.std.specs.Option.{option_map};
 ghost use Rattle.index_file.specs.Entries.{IsInOrder};
-ghost use Rattle.seq_model.specs.Pick.{conflict_free, conflict_in, is_taken as is_taken_of, merges_into as merges_into_of, merges_onto, pick_merges as pick_merges_of};
+ghost use Rattle.seq_model.specs.Pick.{conflict_free, merges_into as merges_into_of, merges_onto, pick_merges as pick_merges_of};
 ghost use Rattle.seq_top.specs.Halts.{Gives, HasHaltCause};
 
 use crate::halt::{Halt, refused};
@@ -16,25 +15,7 @@ use seq_base::{Bytes, Id, PathMap};
 use seq_model::Refusal;
 use seq_outside::Store;
 use std::alloc::Global;
-use tree_merge::{Choice, Planned, plan};
-
-fn is_taken(choice: &Choice) -> bool
-    ensures { result ≡ is_taken_of choice.now }
-{
-    match choice {
-        Choice::Take(_) => true,
-        Choice::Content { .. } => false,
-        Choice::Conflict { .. } => false,
-    }
-}
-
-/// The first path of a plan that conflicts.
-#[tactic(auto, unfolding(seq_model::specs::Pick::conflict_in))]
-fn conflict(rows: &[Planned]) -> Option<&Planned>
-    ensures { option_map (λ row. row.now.path) result ≡ conflict_in rows.now }
-{
-    rows.iter().find(|row| row.clash || !is_taken(&row.choice))
-}
+use tree_merge::{conflict, plan};
 
 /// Refuses where a path conflicts.
 #[tactic(auto, unfolding(seq_model::specs::Pick::conflict_free))]

@@ -39,6 +39,7 @@ pub fn todo_kind_name(value: TodoKind) -> &'static [u8]
         TodoKind::NoSuchCommit => b"no-such-commit".as_slice(),
         TodoKind::MergePicked => b"merge-picked".as_slice(),
         TodoKind::OwnBranch => b"own-branch".as_slice(),
+        TodoKind::NotBuilt => b"not-built".as_slice(),
     }
 }
 
