@@ -26,7 +26,7 @@ fn packed_refs_of_git_are_read(rt: HostRuntime) -> Result<(), Fail> {
     Ok(())
 }
 
-// Git reads digits in either case, and of two lines with one name it takes the first.
+// Git reads digits in either case. Comments may stand anywhere, and a name in two lines stands in the list twice: that is ours.
 #[test]
 fn ids_of_packed_refs_stand_in_either_case(rt: HostRuntime) -> Result<(), Fail> {
     let text =
