@@ -69,6 +69,22 @@ fn set_write(writes: &mut Vec<Write>, write: Write) -> Result<(), AllocError>
     Ok(())
 }
 
+fn copy_of(write: &Write) -> Result<Write, AllocError>
+    ensures { IfOk result (λ copy. copy ≡ write.now) }
+{
+    match write {
+        Write::Put { path, bytes } => {
+            let path = path.clone()?;
+            let bytes = bytes.clone()?;
+            Ok(Write::Put { path, bytes })
+        }
+        Write::Remove { path } => {
+            let path = path.clone()?;
+            Ok(Write::Remove { path })
+        }
+    }
+}
+
 impl Draft {
     /// The draft of no change.
     pub fn new(alloc: Global) -> Draft
@@ -153,6 +169,19 @@ impl Draft {
         ensures err { OnErr result (self.new ≡ self.old) }
     {
         self.set(Write::Remove { path })
+    }
+
+    /// Adds the writes, one after another. At Err the draft may have some of them.
+    pub fn add_all(&mut self, writes: &[Write]) -> Result<(), AllocError>
+        requires { AllByRecursion HasStorePath writes.now }
+        ensures { OnOk result ((w : World) → written w self.new ≡ written (written w self.old) writes.now) }
+    {
+        let mut rest = writes;
+        while let [write, after @ ..] = rest {
+            self.set(copy_of(write)?)?;
+            rest = after;
+        }
+        Ok(())
     }
 
     /// Makes the changes in the order of their paths' first writes, up to the first that fails.
