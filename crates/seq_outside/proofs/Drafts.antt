@@ -116,7 +116,7 @@ covered true b = refl
 covered false true = refl
 covered false false = refl
 
-behind : (a b c : Bool) → (a || (b || c)) ≡ (a || b || c)
+pub behind : (a b c : Bool) → (a || (b || c)) ≡ (a || b || c)
 behind true b c = refl
 behind false b c = refl
 
@@ -136,7 +136,7 @@ is_written_with (y ∷ ys) x q = at (is_written_with ys x q) (is_at (path_of x) 
 
 -- ---- a draft stays one
 
-apart_with : (xs : List Write) (x : Write) → AreApart xs → AreApart (with_write xs x)
+pub apart_with : (xs : List Write) (x : Write) → AreApart xs → AreApart (with_write xs x)
 apart_with [] x apart = (refl, tt)
 apart_with (y ∷ ys) x apart = at (apart_with ys x apart.1) (is_at (path_of x) y) refl
   where

@@ -3,5 +3,6 @@ pub mod Written
 pub mod FreeWrites
 pub mod Drafts
 pub mod FreeDrafts
+pub mod Adding
 pub mod Keys
 pub mod Blocking

@@ -8,7 +8,7 @@ ghost use Rattle.seq_base.specs.Paths.{parts};
 ghost use Rattle.seq_base.specs.Repository.{IsRepository, is_file_place, is_in_place};
 ghost use Rattle.seq_base.specs.StorePaths.{IsStorePath};
 ghost use Rattle.seq_base.specs.World.{World, is_blocked, path_cmp};
-ghost use Rattle.seq_outside.specs.Drafts.{IsBetween, IsDraft, IsPlace, MayFollow, is_at as is_at_path, is_removed, removes, with_write};
+ghost use Rattle.seq_outside.specs.Drafts.{IsBetween, IsDraft, IsPlace, MayFollow, UndoNone, is_at as is_at_path, is_removed, removes, with_write, with_writes};
 ghost use Rattle.seq_outside.specs.Store.{HasStoreCause};
 ghost use Rattle.seq_outside.specs.Writes.{HasStorePath, IsInPlace, IsKept, after, are_free, is_written, written};
 
@@ -174,7 +174,13 @@ impl Draft {
     /// Adds the writes, one after another. At Err the draft may have some of them.
     pub fn add_all(&mut self, writes: &[Write]) -> Result<(), AllocError>
         requires { AllByRecursion HasStorePath writes.now }
-        ensures { OnOk result ((w : World) → written w self.new ≡ written (written w self.old) writes.now) }
+        ensures writes { OnOk result (self.new ≡ with_writes self.old writes.now) }
+        ensures done { OnOk result ((w : World) → written w self.new ≡ written (written w self.old) writes.now) }
+        ensures named { OnOk result ((q : List ℕ) → is_written self.new q ≡ (is_written self.old q || is_written writes.now q)) }
+        ensures free { OnOk result ((w : World) → are_free w self.old ≡ true → are_free (written w self.old) writes.now ≡ true → UndoNone self.old writes.now → UndoNone writes.now writes.now → are_free w self.new ≡ true) }
+        ensures removed { OnOk result ((q : List ℕ) → is_removed self.old q ≡ false → is_removed writes.now q ≡ false → is_removed self.new q ≡ false) }
+        ensures in_place { OnOk result (AllByRecursion IsInPlace self.old → AllByRecursion IsInPlace writes.now → AllByRecursion IsInPlace self.new) }
+        ensures kept { OnOk result (AllByRecursion IsKept self.old → AllByRecursion IsKept writes.now → AllByRecursion IsKept self.new) }
     {
         let mut rest = writes;
         while let [write, after @ ..] = rest {
