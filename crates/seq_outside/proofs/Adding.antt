@@ -2,13 +2,16 @@
 use Rattle.std.proofs.Common.{◌≡◌, ℕ, ◌-◌, ◌<◌, Bool, true, false, ◌||◌, List, [], ◌∷◌, length, take, drop, get_or, refl, sym, ap, subst, ◌∙◌, arith}
 use Rattle.std.proofs.lemmas.Bool.{and_parts, not-true, or_parts}
 use Rattle.std.specs.List.{AllByRecursion}
+use Rattle.seq_base.specs.Repository.{IsRepository}
 use Rattle.seq_base.specs.World.{World, is_blocked}
 use Rattle.seq_outside.specs.declared.write.Write.{Write}
 use Rattle.seq_outside.specs.declared.write.Write.TheVariants.{Put, Remove}
 use Rattle.seq_outside.specs.Drafts.{MayFollow, UndoNone, UndoesNone, is_at, is_removed, removes, with_write, with_writes}
+use Rattle.seq_outside.specs.Keeping.{AreWithinGit, JoinsRepository, KeepsRepository}
 use Rattle.seq_outside.specs.Writes.{HasStorePath, after, are_free, is_free, is_written, written}
 use Rattle.seq_outside.proofs.Drafts.{all_with, behind, is_written_with}
 use Rattle.seq_outside.proofs.Firsts.{first_and_others}
+use Rattle.seq_outside.proofs.Keeping.{repository_behind, undo_none_within}
 use Rattle.seq_outside.proofs.FreeDrafts.{removed_with}
 
 or_false : (a : Bool) → a ≡ (a || false)
@@ -112,3 +115,12 @@ module _ (xs ys zs rest : List Write) (none : length rest < 1) (adding : Adding 
 
   pub add_free : (w : World) → are_free w xs ≡ true → are_free (written w xs) ys ≡ true → UndoNone xs ys → UndoNone ys ys → are_free w zs ≡ true
   add_free w first behind unremoved here = (all_added.free w (record { draft = first; behind = behind; none = unremoved; here = here })).draft
+
+  pub add_keeps : (w : World) → KeepsRepository w xs → AreWithinGit xs → JoinsRepository w ys → KeepsRepository w zs
+  add_keeps w keeps within joins =
+      let unblocked = joins.unblocked xs within keeps.repository in
+      record {
+        free = add_free w keeps.free unblocked (undo_none_within xs ys keeps.intact within) joins.undo;
+        repository = subst IsRepository (sym (all_added.leaves w)) (repository_behind (written w xs) ys keeps.repository unblocked joins.in_place);
+        intact = λ file under. add_removed file (keeps.intact file under) (joins.intact file under);
+      }

@@ -136,7 +136,7 @@ is_written_with (y ∷ ys) x q = at (is_written_with ys x q) (is_at (path_of x) 
 
 -- ---- a draft stays one
 
-pub apart_with : (xs : List Write) (x : Write) → AreApart xs → AreApart (with_write xs x)
+apart_with : (xs : List Write) (x : Write) → AreApart xs → AreApart (with_write xs x)
 apart_with [] x apart = (refl, tt)
 apart_with (y ∷ ys) x apart = at (apart_with ys x apart.1) (is_at (path_of x) y) refl
   where

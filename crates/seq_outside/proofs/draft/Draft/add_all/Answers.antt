@@ -1,6 +1,6 @@
 use Rattle.std.proofs.Common.{arith, ◌<◌, length}
 use Rattle.seq_outside.specs.Writes.{IsInPlace, IsKept}
-use Rattle.seq_outside.proofs.Adding.{add_every, add_free, add_named, add_removed, adding_more}
+use Rattle.seq_outside.proofs.Adding.{add_every, add_free, add_keeps, add_named, add_removed, adding_more}
 use Rattle.seq_outside.proofs.draft.Draft.add_all.Goals as goal
 
 pub loop-rest-preserved : goal.loop-rest-preserved
@@ -23,3 +23,6 @@ returns-clause-in_place c = add_every _ _ _ c.loop-rest.rest.now c.in_default.le
 
 pub returns-clause-kept : goal.returns-clause-kept
 returns-clause-kept c = add_every _ _ _ c.loop-rest.rest.now c.in_default.len_below c.loop-rest.invariant IsKept
+
+pub returns-clause-keeps : goal.returns-clause-keeps
+returns-clause-keeps c = add_keeps _ _ _ c.loop-rest.rest.now c.in_default.len_below c.loop-rest.invariant
