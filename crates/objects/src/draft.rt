@@ -9,6 +9,7 @@ ghost use Rattle.objects.specs.Drafted.{HasLengthJudged, IsDrafted, Settles};
 ghost use Rattle.seq_base.specs.World.{World, path_cmp};
 ghost use Rattle.seq_base.specs.Repository.{IsRepository};
 ghost use Rattle.seq_outside.specs.Drafts.{is_removed};
+ghost use Rattle.seq_outside.specs.Keeping.{AreWithinGit, KeepsRepository};
 ghost use Rattle.seq_outside.specs.Writes.{IsInPlace, IsKept, are_free, is_written, written};
 ghost use Rattle.sha1.specs.Sha1.{sha1};
 
@@ -62,6 +63,8 @@ pub fn draft_object<S: Store>(
     ensures removed { OnOk result ((q : List ℕ) → is_removed draft.old q ≡ false → is_removed draft.new q ≡ false) }
     ensures in_place { OnOk result (AllByRecursion IsInPlace draft.old → AllByRecursion IsInPlace draft.new) }
     ensures kept { OnOk result (AllByRecursion IsKept draft.old → AllByRecursion IsKept draft.new) }
+    ensures keeps { OnOk result ((w : World) → KeepsRepository w draft.old → KeepsRepository w draft.new) }
+    ensures within_git { OnOk result (AreWithinGit draft.old → AreWithinGit draft.new) }
     ensures same { S.told → S.content store.new ≡ S.content store.old }
     ensures cause { HasReadCause result (S.faults store.old) (S.faults store.new) (S.blocked store.old) (S.blocked store.new) }
 {

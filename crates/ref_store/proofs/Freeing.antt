@@ -76,7 +76,7 @@ logged_repository w name line h repository free = elim (has_log name) as (λ b. 
   | false ↦ repository
 ]
 
-head_log_free : (w : World) → IsRepository w → is_blocked w (log_path head_name) ≡ false
+pub head_log_free : (w : World) → IsRepository w → is_blocked w (log_path head_name) ≡ false
 head_log_free w repository = kept_is_free w (log_path head_name) repository refl
 
 module _ (w : World) (branch id : List ℕ) (line : LogLine) (name : IsRefName branch) (repository : IsRepository w) (writable : IsWritable w branch) where
@@ -94,6 +94,10 @@ module _ (w : World) (branch id : List ℕ) (line : LogLine) (name : IsRefName b
 
   pub moved_repository : IsRepository (move_head w (Branch branch) id line)
   moved_repository = logged_repository (logged one branch line) head_name line refl two_repository head_is_free
+
+-- the log of a ref is free behind the ref's file
+pub behind_ref : (w : World) (old new : List Write) (name bytes : List ℕ) → IsRefName name → written w new ≡ map.insert (written w old) (ref_path name) bytes → is_blocked (written w old) (log_path name) ≡ false → is_blocked (written w new) (log_path name) ≡ false
+behind_ref w old new name bytes h done free = ap (λ (v : World). is_blocked v (log_path name)) done ∙ log_free (written w old) name name bytes h free
 
 -- ---- the three writes of a move
 

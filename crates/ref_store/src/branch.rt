@@ -13,6 +13,7 @@ ghost use Rattle.ref_text.specs.Refs.{IsWritable, head_name, log_path, move_head
 ghost use Rattle.seq_base.specs.RefNames.{IsRefName};
 ghost use Rattle.seq_base.specs.Repository.{IsRepository};
 ghost use Rattle.seq_base.specs.World.{World, is_blocked, path_cmp};
+ghost use Rattle.seq_outside.specs.Keeping.{KeepsRepository};
 ghost use Rattle.seq_outside.specs.Writes.{IsInPlace, IsKept, are_free, is_written, written};
 
 use crate::fault::RefFault;
@@ -30,6 +31,7 @@ fn draft_value(alloc: Global, draft: &mut Draft, name: &[u8], id: Id) -> Result<
     ensures named { OnOk result ((q : List ℕ) → is_written draft.new q ≡ (is_written draft.old q || eq_by_cmp path_cmp q (ref_path name.now))) }
     ensures free { OnOk result ((w : World) → are_free w draft.old ≡ true → is_written draft.old (ref_path name.now) ≡ false → is_blocked (written w draft.old) (ref_path name.now) ≡ false → are_free w draft.new ≡ true) }
     ensures in_place { OnOk result (AllByRecursion IsInPlace draft.old → AllByRecursion IsInPlace draft.new) }
+    ensures keeps { OnOk result ((w : World) → KeepsRepository w draft.old → is_blocked (written w draft.old) (ref_path name.now) ≡ false → KeepsRepository w draft.new) }
 {
     let path = ref_file(alloc, name)?;
     let text = head_text(alloc, &Head::Detached(id))?;
@@ -57,6 +59,7 @@ pub fn draft_branch<S: Store>(
     ensures behind_kept { S.told → OnOk result (IsRepository (S.content store.old) → AllByRecursion IsKept draft.old → is_written draft.old (log_path head_name) ≡ false → bytes_eq branch.now head_name ≡ false → IsWritable (written (S.content store.old) draft.old) branch.now → are_free (S.content store.old) draft.new ≡ true) }
     ensures repository { S.told → OnOk result (IsRepository (written (S.content store.old) draft.old) → IsWritable (written (S.content store.old) draft.old) branch.now → IsRepository (written (S.content store.old) draft.new)) }
     ensures in_place { OnOk result (AllByRecursion IsInPlace draft.old → AllByRecursion IsInPlace draft.new) }
+    ensures keeps { OnOk result ((w : World) → KeepsRepository w draft.old → IsWritable (written w draft.old) branch.now → KeepsRepository w draft.new) }
     ensures same { S.told → S.content store.new ≡ S.content store.old }
     ensures cause { HasReadCause result (S.faults store.old) (S.faults store.new) (S.blocked store.old) (S.blocked store.new) }
 {

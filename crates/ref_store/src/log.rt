@@ -9,7 +9,8 @@ ghost use Rattle.ref_text.specs.Logs.{IsLogValue};
 ghost use Rattle.ref_text.specs.Refs.{log_path, logged};
 ghost use Rattle.seq_base.specs.RefNames.{IsRefName};
 ghost use Rattle.seq_base.specs.StorePaths.{IsStorePath};
-ghost use Rattle.seq_base.specs.World.{is_blocked};
+ghost use Rattle.seq_base.specs.World.{World, is_blocked};
+ghost use Rattle.seq_outside.specs.Keeping.{KeepsRepository};
 ghost use Rattle.seq_outside.specs.Writes.{IsInPlace, are_free, is_written, written};
 
 use crate::fault::RefFault;
@@ -51,6 +52,7 @@ pub fn draft_line<S: Store>(
     ensures named { OnOk result ((q : List ℕ) → is_written draft.new q ≡ (is_written draft.old q || is_log_of name.now q)) }
     ensures free { S.told → OnOk result (are_free (S.content store.old) draft.old ≡ true → is_written draft.old (log_path name.now) ≡ false → is_blocked (written (S.content store.old) draft.old) (log_path name.now) ≡ false → are_free (S.content store.old) draft.new ≡ true) }
     ensures in_place { OnOk result (AllByRecursion IsInPlace draft.old → AllByRecursion IsInPlace draft.new) }
+    ensures keeps { OnOk result ((w : World) → KeepsRepository w draft.old → is_blocked (written w draft.old) (log_path name.now) ≡ false → KeepsRepository w draft.new) }
     ensures same { S.told → S.content store.new ≡ S.content store.old }
     ensures cause { HasReadCause result (S.faults store.old) (S.faults store.new) (S.blocked store.old) (S.blocked store.new) }
 {

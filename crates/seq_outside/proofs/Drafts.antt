@@ -116,7 +116,7 @@ covered true b = refl
 covered false true = refl
 covered false false = refl
 
-behind : (a b c : Bool) → (a || (b || c)) ≡ (a || b || c)
+pub behind : (a b c : Bool) → (a || (b || c)) ≡ (a || b || c)
 behind true b c = refl
 behind false b c = refl
 

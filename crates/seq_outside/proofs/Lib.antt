@@ -3,5 +3,7 @@ pub mod Written
 pub mod FreeWrites
 pub mod Drafts
 pub mod FreeDrafts
+pub mod Keeping
+pub mod Adding
 pub mod Keys
 pub mod Blocking

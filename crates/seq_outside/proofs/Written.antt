@@ -34,7 +34,7 @@ either : (w aim : World) (x : Write) (path : List ℕ) (b : Bool) → eq_by_cmp 
 either w aim x path true same agrees = inr (there w aim x path same agrees)
 either w aim x path false other agrees = inl (elsewhere w x path other)
 
-repository_after : (w : World) (x : Write) → IsRepository w → is_free w x ≡ true → IsInPlace x → IsRepository (after w x)
+pub repository_after : (w : World) (x : Write) → IsRepository w → is_free w x ≡ true → IsInPlace x → IsRepository (after w x)
 repository_after w (Put path bytes) repository free place = stays_repository w path bytes repository (not-true _ free) place
 repository_after w (Remove path) repository free place = removed_repository w path repository
 

@@ -31,6 +31,11 @@ abbrev pub with_write : List Write → Write → List Write
 with_write [] write = write ∷ []
 with_write (x ∷ xs) write = if is_at (path_of write) x then write ∷ xs else x ∷ with_write xs write
 
+-- the writes with these others, one after another
+abbrev pub with_writes : List Write → List Write → List Write
+with_writes xs [] = xs
+with_writes xs (y ∷ ys) = with_writes (with_write xs y) ys
+
 -- the write removes this file
 abbrev pub removes : List ℕ → Write → Bool
 removes file (Put path bytes) = false
@@ -43,6 +48,15 @@ is_removed writes file = list_any (removes file) writes
 abbrev pub MayFollow : World → List Write → Write → Type 0
 MayFollow w writes (Put path bytes) = (is_removed writes path ≡ false) × (is_blocked (written w writes) path ≡ false)
 MayFollow w writes (Remove path) = Unit {0}
+
+-- the write puts no file that one of these removes
+abbrev pub UndoesNone : List Write → Write → Type 0
+UndoesNone removing (Put path bytes) = is_removed removing path ≡ false
+UndoesNone removing (Remove path) = Unit {0}
+
+-- the writes put no file that one of these removes
+abbrev pub UndoNone : List Write → List Write → Type 0
+UndoNone removing writes = AllByRecursion (UndoesNone removing) writes
 
 -- the write puts a file below this folder
 abbrev pub puts_below : List ℕ → Write → Bool

@@ -5,3 +5,4 @@ pub mod Sink
 pub mod Env
 pub mod Writes
 pub mod Drafts
+pub mod Keeping

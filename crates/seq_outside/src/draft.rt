@@ -2,13 +2,14 @@
 
 ghost use Rattle.std.specs.FinMap as map;
 ghost use Rattle.std.specs.Ordering.{eq_by_cmp};
-ghost use Rattle.std.specs.Prelude.{◌≡◌, ◌||◌, false, true, [], IfNone, IfOk, IfSome, IsErrOf, List, OnErr, OnOk, option_map, ℕ};
+ghost use Rattle.std.specs.Prelude.{◌≡◌, ◌||◌, false, true, [], IfNone, IfOk, IfSome, IsErrOf, List, OnErr, OnOk, codes, option_map, ℕ};
 ghost use Rattle.std.specs.List.{AllByRecursion};
 ghost use Rattle.seq_base.specs.Paths.{parts};
 ghost use Rattle.seq_base.specs.Repository.{IsRepository, is_file_place, is_in_place};
 ghost use Rattle.seq_base.specs.StorePaths.{IsStorePath};
-ghost use Rattle.seq_base.specs.World.{World, is_blocked, path_cmp};
-ghost use Rattle.seq_outside.specs.Drafts.{IsBetween, IsDraft, IsPlace, MayFollow, is_at as is_at_path, is_removed, removes, with_write};
+ghost use Rattle.seq_base.specs.World.{World, is_below, is_blocked, path_cmp};
+ghost use Rattle.seq_outside.specs.Drafts.{IsBetween, IsDraft, IsPlace, MayFollow, UndoNone, is_at as is_at_path, is_removed, removes, with_write, with_writes};
+ghost use Rattle.seq_outside.specs.Keeping.{AreWithinGit, JoinsRepository, KeepsRepository};
 ghost use Rattle.seq_outside.specs.Store.{HasStoreCause};
 ghost use Rattle.seq_outside.specs.Writes.{HasStorePath, IsInPlace, IsKept, after, are_free, is_written, written};
 
@@ -88,7 +89,9 @@ fn copy_of(write: &Write) -> Result<Write, AllocError>
 impl Draft {
     /// The draft of no change.
     pub fn new(alloc: Global) -> Draft
-        ensures { result ≡ [] }
+        ensures none { result ≡ [] }
+        ensures keeps { (w : World) → IsRepository w → KeepsRepository w result }
+        ensures within_git { AreWithinGit result }
     {
         Draft {
             writes: Vec::new(alloc),
@@ -150,6 +153,9 @@ impl Draft {
         ensures removed { OnOk result ((q : List ℕ) → is_removed self.old q ≡ false → is_removed self.new q ≡ false) }
         ensures in_place { OnOk result (AllByRecursion IsInPlace self.old → is_in_place path ≡ true → AllByRecursion IsInPlace self.new) }
         ensures kept { OnOk result (AllByRecursion IsKept self.old → is_file_place (parts path) ≡ true → AllByRecursion IsKept self.new) }
+        ensures keeps { OnOk result ((w : World) → KeepsRepository w self.old → is_in_place path ≡ true → is_below (codes ".git") path ≡ true → is_blocked (written w self.old) path ≡ false → KeepsRepository w self.new) }
+        ensures keeps_placed { OnOk result ((w : World) → KeepsRepository w self.old → is_file_place (parts path) ≡ true → is_below (codes ".git") path ≡ true → KeepsRepository w self.new) }
+        ensures within_git { OnOk result (AreWithinGit self.old → is_below (codes ".git") path ≡ true → AreWithinGit self.new) }
         ensures err { OnErr result (self.new ≡ self.old) }
     {
         self.set(Write::Put { path, bytes })?;
@@ -174,7 +180,14 @@ impl Draft {
     /// Adds the writes, one after another. At Err the draft may have some of them.
     pub fn add_all(&mut self, writes: &[Write]) -> Result<(), AllocError>
         requires { AllByRecursion HasStorePath writes.now }
-        ensures { OnOk result ((w : World) → written w self.new ≡ written (written w self.old) writes.now) }
+        ensures writes { OnOk result (self.new ≡ with_writes self.old writes.now) }
+        ensures done { OnOk result ((w : World) → written w self.new ≡ written (written w self.old) writes.now) }
+        ensures named { OnOk result ((q : List ℕ) → is_written self.new q ≡ (is_written self.old q || is_written writes.now q)) }
+        ensures free { OnOk result ((w : World) → are_free w self.old ≡ true → are_free (written w self.old) writes.now ≡ true → UndoNone self.old writes.now → UndoNone writes.now writes.now → are_free w self.new ≡ true) }
+        ensures removed { OnOk result ((q : List ℕ) → is_removed self.old q ≡ false → is_removed writes.now q ≡ false → is_removed self.new q ≡ false) }
+        ensures in_place { OnOk result (AllByRecursion IsInPlace self.old → AllByRecursion IsInPlace writes.now → AllByRecursion IsInPlace self.new) }
+        ensures kept { OnOk result (AllByRecursion IsKept self.old → AllByRecursion IsKept writes.now → AllByRecursion IsKept self.new) }
+        ensures keeps { OnOk result ((w : World) → KeepsRepository w self.old → AreWithinGit self.old → JoinsRepository w writes.now → KeepsRepository w self.new) }
     {
         let mut rest = writes;
         while let [write, after @ ..] = rest {
@@ -191,6 +204,7 @@ impl Draft {
         ensures elsewhere { S.told → (path : List ℕ) → is_written self.now path ≡ false → map.get (S.content store.new) path ≡ map.get (S.content store.old) path }
         ensures free { S.told → are_free (S.content store.old) self.now ≡ true → IsErrOf result StoreError.Blocked → ⊥ }
         ensures kept { S.told → IsRepository (S.content store.old) → AllByRecursion IsKept self.now → IsErrOf result StoreError.Blocked → ⊥ }
+        ensures keeps { S.told → KeepsRepository (S.content store.old) self.now → IsErrOf result StoreError.Blocked → ⊥ }
         ensures repository { S.told → IsRepository (S.content store.old) → AllByRecursion IsInPlace self.now → IsRepository (S.content store.new) }
         ensures cause { HasStoreCause result (S.faults store.old) (S.faults store.new) (S.blocked store.old) (S.blocked store.new) }
     {

@@ -94,11 +94,13 @@ abbrev pub unless_obstructed : Option (List ℕ) → Result (List Write) SwitchF
 unless_obstructed (Some path) writes = Err (InWay path)
 unless_obstructed None writes = writes
 
--- the removals, then the index, then the files, in path order
+-- what switches them where no file is in the way: the removals, then the index, then the files, in path order
+unfoldable pub clear_writes : World → List IndexEntry → Entries → Result (List Write) SwitchFault
+clear_writes w from to = blob_writes w (filter (is_rewritten from) to) >>= λ blobs. Ok (removals from to ++ index_write to ∷ blobs)
+
+-- what switches them
 unfoldable pub switch_writes : World → List IndexEntry → Entries → Result (List Write) SwitchFault
-switch_writes w from to =
-    unless_obstructed (first_obstructed w from to)
-    (blob_writes w (filter (is_rewritten from) to) >>= λ blobs. Ok (removals from to ++ index_write to ∷ blobs))
+switch_writes w from to = unless_obstructed (first_obstructed w from to) (clear_writes w from to)
 
 -- the world with index and files of the map, where those of an index stood
 abbrev pub switched : World → List IndexEntry → Entries → Result World SwitchFault

@@ -5,3 +5,4 @@ pub mod ReadBlobs
 pub mod Placing
 pub mod NoneLeast
 pub mod Unblocked
+pub mod Joining

@@ -11,7 +11,7 @@ use Rattle.index_file.specs.declared.entry.IndexEntry.{IndexEntry}
 use Rattle.index_file.specs.Index.{indexed}
 use Rattle.index_file.specs.Spelling.{index_text}
 use Rattle.stage_index.specs.Stages.{Entries, map_of, row_of}
-use Rattle.stage_index.specs.Switching.{SwitchFault, InWay, NoBlob, ◌>>=◌, blob_at, blob_writes, first_obstructed, index_write, is_rewritten, or_no_blob, removals, switch_writes}
+use Rattle.stage_index.specs.Switching.{SwitchFault, InWay, NoBlob, ◌>>=◌, blob_at, blob_writes, clear_writes, first_obstructed, index_write, is_rewritten, or_no_blob, removals, switch_writes}
 use Rattle.stage_index.proofs.Indexing.{rows_of-indexed}
 use Rattle.worktree.specs.declared.fault.WorkFault.{WorkFault}
 use Rattle.worktree.specs.declared.fault.WorkFault.TheVariants.{WouldOverwrite, BadObject, TooLarge, Fault, Memory}
@@ -141,26 +141,24 @@ pub obstructed_switch : (w : World) (from : List IndexEntry) (to : Entries) (pat
 unfolding switch_writes
 obstructed_switch w from to path is = rw is refl
 
-fails_so : (w : World) (from : List IndexEntry) (to : Entries) (e : SwitchFault) → first_obstructed w from to ≡ None → blob_writes w (filter (is_rewritten from) to) ≡ Err e → switch_writes w from to ≡ Err e
+pub clear_switch : (w : World) (from : List IndexEntry) (to : Entries) → first_obstructed w from to ≡ None → clear_writes w from to ≡ switch_writes w from to
 unfolding switch_writes
-fails_so w from to e free is = rw (free, is) refl
+clear_switch w from to free = rw free refl
 
-pub refused_switch : (w : World) (from : List IndexEntry) (to : Entries) (e : WorkFault) → first_obstructed w from to ≡ None → Refuses e w (blob_writes w (filter (is_rewritten from) to)) → Refuses e w (switch_writes w from to)
-refused_switch w from to e free refused = at e refused
-  where
-    fails : (e : SwitchFault) → blob_writes w (filter (is_rewritten from) to) ≡ Err e → switch_writes w from to ≡ Err e
-    fails e is = fails_so w from to e free is
+fails_so : (w : World) (from : List IndexEntry) (to : Entries) (e : SwitchFault) → blob_writes w (filter (is_rewritten from) to) ≡ Err e → clear_writes w from to ≡ Err e
+unfolding clear_writes
+fails_so w from to e is = rw is refl
 
-    at : (e : WorkFault) → Refuses e w (blob_writes w (filter (is_rewritten from) to)) → Refuses e w (switch_writes w from to)
-    at (WouldOverwrite path) refused = fails (InWay path) refused
-    at (BadObject id) refused = (fails (NoBlob id) refused.0, refused.1)
-    at (TooLarge count) refused = (refused.0, fails (NoBlob refused.0) refused.1, refused.2)
-    at Fault refused = tt
-    at Memory refused = tt
+pub refused_clear : (w : World) (from : List IndexEntry) (to : Entries) (e : WorkFault) → Refuses e w (blob_writes w (filter (is_rewritten from) to)) → Refuses e w (clear_writes w from to)
+refused_clear w from to (WouldOverwrite path) refused = fails_so w from to (InWay path) refused
+refused_clear w from to (BadObject id) refused = (fails_so w from to (NoBlob id) refused.0, refused.1)
+refused_clear w from to (TooLarge count) refused = (refused.0, fails_so w from to (NoBlob refused.0) refused.1, refused.2)
+refused_clear w from to Fault refused = tt
+refused_clear w from to Memory refused = tt
 
-pub all_writes : (w : World) (from : List IndexEntry) (to : Entries) (blobs : List Write) → first_obstructed w from to ≡ None → blob_writes w (filter (is_rewritten from) to) ≡ Ok blobs → switch_writes w from to ≡ Ok (removals from to ++ index_write to ∷ blobs)
-unfolding switch_writes
-all_writes w from to blobs free is = rw (free, is) refl
+pub all_writes : (w : World) (from : List IndexEntry) (to : Entries) (blobs : List Write) → blob_writes w (filter (is_rewritten from) to) ≡ Ok blobs → clear_writes w from to ≡ Ok (removals from to ++ index_write to ∷ blobs)
+unfolding clear_writes
+all_writes w from to blobs is = rw is refl
 
 -- the entries that are gone through are those of the map
 pub found_in : (w : World) (from : List IndexEntry) (to : Entries) (items slice : List IndexEntry) (found : Option (List ℕ)) → items ≡ indexed to → items ≡ slice → found ≡ first_obstructed w from (map row_of slice) → first_obstructed w from to ≡ found

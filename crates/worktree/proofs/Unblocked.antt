@@ -36,13 +36,13 @@ use Rattle.worktree.proofs.Placing.{in_place}
 
 -- ---- paths of the worktree and files in `.git`
 
-abbrev InGit : List ℕ → Type 0
+abbrev pub InGit : List ℕ → Type 0
 InGit file = (rest : List (List ℕ)) × (parts file ≡ codes ".git" ∷ rest)
 
-in_git : (file : List ℕ) → is_below (codes ".git") file ≡ true → InGit file
+pub in_git : (file : List ℕ) → is_below (codes ".git") file ≡ true → InGit file
 in_git file is = let k = behind (codes ".git") file is in (parts k.0, ap parts k.1 ∙ parts-behind (codes ".git") k.0)
 
-plain_not_git : (path : List ℕ) (rest : List (List ℕ)) (more : List (List ℕ)) → IsPath path → parts path ++ more ≡ codes ".git" ∷ rest → ⊥
+pub plain_not_git : (path : List ℕ) (rest : List (List ℕ)) (more : List (List ℕ)) → IsPath path → parts path ++ more ≡ codes ".git" ∷ rest → ⊥
 plain_not_git path rest more is e = at (parts path) (some_part path) (All-parts path is) e
   where
     All-parts : (path : List ℕ) → IsPath path → AllByRecursion IsPlainPart (parts path)
@@ -100,7 +100,7 @@ apart_of (e ∷ es) p q a b apart pa qb = at (λ h k. apart_of es p q a b apart.
     at rest false i true j h k = let c = clear q p (sym (ap (λ (x : List ℕ). clashes x p) ((bytes_eq-Decides e.0 q).0 j)) ∙ clear_of e.0 es p a apart.0 h) in (c.1, c.0)
     at rest false i false j h k = rest h k
 
-no_blobs : (w : World) (blobs : List Write) → blob_writes w [] ≡ Ok blobs → [] ≡ blobs
+pub no_blobs : (w : World) (blobs : List Write) → blob_writes w [] ≡ Ok blobs → [] ≡ blobs
 unfolding blob_writes
 no_blobs w blobs is = cc
 
@@ -185,13 +185,13 @@ module _ (w : World) (from : List IndexEntry) (to : Entries) (apart : AreApart t
       at true same = inl (e.1, ap (entry_at to) same ∙ is.0)
       at false old = covered file old outside
 
-  record Parted (e : List ℕ × Entry) (es : Entries) (blobs : List Write) : Type 0 where
-    bytes : List ℕ
-    others : List Write
-    rest : blob_writes w es ≡ Ok others
-    all : Put e.0 bytes ∷ others ≡ blobs
+  pub record Parted (e : List ℕ × Entry) (es : Entries) (blobs : List Write) : Type 0 where
+    pub bytes : List ℕ
+    pub others : List Write
+    pub rest : blob_writes w es ≡ Ok others
+    pub all : Put e.0 bytes ∷ others ≡ blobs
 
-  part : (e : List ℕ × Entry) (es : Entries) (blobs : List Write) → blob_writes w (e ∷ es) ≡ Ok blobs → Parted e es blobs
+  pub part : (e : List ℕ × Entry) (es : Entries) (blobs : List Write) → blob_writes w (e ∷ es) ≡ Ok blobs → Parted e es blobs
   unfolding blob_writes
   part e es blobs is = at (or_no_blob (blob_at w e.1.id) e.1.id) (blob_writes w es) refl is
     where

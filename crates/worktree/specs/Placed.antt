@@ -6,11 +6,13 @@ use Rattle.seq_base.specs.Paths.{IsPath}
 use Rattle.seq_base.specs.Repository.{IsRepository}
 use Rattle.seq_base.specs.World.{World, is_below}
 use Rattle.seq_outside.specs.declared.write.Write.{Write}
-use Rattle.seq_outside.specs.Writes.{are_free, path_of}
+use Rattle.seq_outside.specs.declared.write.Write.TheVariants.{Put, Remove}
+use Rattle.seq_outside.specs.Writes.{are_free}
 
--- the index, or a path of the worktree
+-- the index or a path of the worktree is put, or a path of the worktree is removed
 abbrev pub IsPlaced : Write → Type 0
-IsPlaced write = (path_of write ≡ codes ".git/index") ⊎ IsPath (path_of write)
+IsPlaced (Put path bytes) = (path ≡ codes ".git/index") ⊎ IsPath path
+IsPlaced (Remove path) = IsPath path
 
 abbrev pub ArePlaced : List Write → Type 0
 ArePlaced writes = AllByRecursion IsPlaced writes

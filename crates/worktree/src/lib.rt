@@ -10,7 +10,7 @@ mod writes;
 
 pub use changed::first_change;
 pub use fault::WorkFault;
-pub use writes::switch_writes;
+pub use writes::{clear_writes, obstructed_path, switch_writes};
 
 #[cfg(test)]
 mod tests;

@@ -121,6 +121,7 @@ fn a_switch_removes_then_writes_index_and_files(rt: HostRuntime) -> Result<(), F
             (b"d", b"hello\n"),
         ],
     )?;
+    assert!(rt; matches!(obstructed_path(alloc, &mut store, &from, &to), Ok(None)));
     let writes = switch_writes(alloc, &mut store, &from, &to)?;
     assert_eq!(rt; writes.len(), 3);
     assert!(rt; removes(&writes[0], b"d"));
@@ -141,8 +142,9 @@ fn is_obstructed(
     requires { length to.now < 2 ^ 32 }
 {
     let from = from_map(alloc, from)?;
+    let is_found = is_path(obstructed_path(alloc, store, &from, to), path);
     match switch_writes(alloc, store, &from, to) {
-        Err(WorkFault::WouldOverwrite { path: found }) => Ok(found.bytes() == path),
+        Err(WorkFault::WouldOverwrite { path: found }) => Ok(is_found && found.bytes() == path),
         _ => Ok(false),
     }
 }

@@ -1,16 +1,17 @@
 //! The writes of a switch.
 
-ghost use Rattle.std.specs.Prelude.{◌≡◌, ◌<◌, ◌^◌, ◌++◌, ◌∷◌, [], IfOk, OnOk, codes, filter, is_none, length, map};
+ghost use Rattle.std.specs.Prelude.{◌≡◌, ◌<◌, ◌^◌, ◌++◌, ◌∷◌, [], IfOk, None, OnOk, codes, filter, is_none, length, map};
 ghost use Rattle.index_file.specs.Entries.{IsInOrder, IsIndex};
 ghost use Rattle.index_file.specs.Spelling.{index_text as text_of_index};
 ghost use Rattle.seq_base.specs.PathMaps.{entry_at};
 ghost use Rattle.seq_base.specs.Paths.{IsPath};
+ghost use Rattle.seq_outside.specs.Keeping.{JoinsRepository};
 ghost use Rattle.seq_outside.specs.Writes.{HasStorePath, IsInPlace};
 ghost use Rattle.std.specs.List.{AllByRecursion};
 ghost use Rattle.stage_index.specs.Stages.{map_of, row_of};
-ghost use Rattle.stage_index.specs.Switching.{blob_writes, is_rewritten as is_rewritten_in, removals, switch_writes as writes_of};
+ghost use Rattle.stage_index.specs.Switching.{blob_writes, clear_writes as clear_writes_of, first_obstructed as first_obstructed_in, is_rewritten as is_rewritten_in, removals, switch_writes as writes_of};
 ghost use Rattle.worktree.specs.Blobs.{Appends, GivesWrites};
-ghost use Rattle.worktree.specs.Causes.{HasCause};
+ghost use Rattle.worktree.specs.Causes.{HasCause, HasReadCause};
 ghost use Rattle.worktree.specs.Placed.{ArePlaced, AreUnblocked};
 
 use crate::blob::read_blob;
@@ -134,6 +135,55 @@ fn push_blobs<S: Store>(
     Ok(())
 }
 
+/// The least path of the map that would be written where an untracked file is in its way: at the path, in the place of one of its
+/// folders, or below it (git-read-tree(1), "Two Tree Merge").
+pub fn obstructed_path<S: Store>(
+    alloc: Global,
+    store: &mut S,
+    from: &[IndexEntry],
+    to: &PathMap,
+) -> Result<Option<Path>, WorkFault>
+    requires order { IsInOrder from.now }
+    requires few { length to.now < 2 ^ 32 }
+    ensures found { S.told → IfOk result (λ found. found ≡ first_obstructed_in (S.content store.old) from.now to.now) }
+    ensures same { S.told → S.content store.new ≡ S.content store.old }
+    ensures cause { HasReadCause result (S.faults store.old) (S.faults store.new) (S.blocked store.old) (S.blocked store.new) }
+{
+    let index = from_map(alloc, to)?;
+    first_obstructed(alloc, store, from, &index)
+}
+
+/// What switches index and files from what an index tracks to a map, where `obstructed_path` is None (git-read-tree(1), "Two Tree
+/// Merge"), as writes that are not made yet: the removals, then the index, then the files, in path order. Refused are BadObject or
+/// TooLarge for the first blob that cannot be read.
+pub fn clear_writes<S: Store>(
+    alloc: Global,
+    store: &mut S,
+    from: &[IndexEntry],
+    to: &PathMap,
+) -> Result<Vec<Write>, WorkFault>
+    requires order { IsInOrder from.now }
+    requires few { length to.now < 2 ^ 32 }
+    ensures gives { S.told → GivesWrites (λ writes. writes.items) result (S.content store.old) (clear_writes_of (S.content store.old) from.now to.now) }
+    ensures placed { IfOk result (λ writes. ArePlaced writes.items) }
+
+    // They follow from `placed`, and a call of `write_all` asks for them.
+    ensures store_paths { IfOk result (λ writes. AllByRecursion HasStorePath writes.items) }
+    ensures in_place { IfOk result (λ writes. AllByRecursion IsInPlace writes.items) }
+    ensures free { S.told → first_obstructed_in (S.content store.old) from.now to.now ≡ None → IfOk result (λ writes. AreUnblocked (S.content store.old) writes.items) }
+    ensures joins { S.told → first_obstructed_in (S.content store.old) from.now to.now ≡ None → IfOk result (λ writes. JoinsRepository (S.content store.old) writes.items) }
+    ensures same { S.told → S.content store.new ≡ S.content store.old }
+    ensures cause { HasCause result (S.faults store.old) (S.faults store.new) (S.blocked store.old) (S.blocked store.new) }
+{
+    let _length = to.len();
+    let index = from_map(alloc, to)?;
+    let mut writes = Vec::new(alloc);
+    push_removals(alloc, from, &index, &mut writes)?;
+    writes.push(index_write(alloc, &index)?)?;
+    push_blobs(alloc, store, from, &index, &mut writes)?;
+    Ok(writes)
+}
+
 /// What switches index and files from what an index tracks to a map (git-read-tree(1), "Two Tree Merge"), as writes that are
 /// not made yet: the removals, then the index, then the files, in path order. Refused are WouldOverwrite for the least path
 /// that would be written where an untracked file is in its way, and then BadObject or TooLarge for the first blob that cannot
@@ -153,17 +203,12 @@ pub fn switch_writes<S: Store>(
     ensures store_paths { IfOk result (λ writes. AllByRecursion HasStorePath writes.items) }
     ensures in_place { IfOk result (λ writes. AllByRecursion IsInPlace writes.items) }
     ensures free { S.told → IfOk result (λ writes. AreUnblocked (S.content store.old) writes.items) }
+    ensures joins { S.told → IfOk result (λ writes. JoinsRepository (S.content store.old) writes.items) }
     ensures same { S.told → S.content store.new ≡ S.content store.old }
     ensures cause { HasCause result (S.faults store.old) (S.faults store.new) (S.blocked store.old) (S.blocked store.new) }
 {
-    let _length = to.len();
-    let index = from_map(alloc, to)?;
-    if let Some(path) = first_obstructed(alloc, store, from, &index)? {
+    if let Some(path) = obstructed_path(alloc, store, from, to)? {
         return Err(WorkFault::WouldOverwrite { path });
     }
-    let mut writes = Vec::new(alloc);
-    push_removals(alloc, from, &index, &mut writes)?;
-    writes.push(index_write(alloc, &index)?)?;
-    push_blobs(alloc, store, from, &index, &mut writes)?;
-    Ok(writes)
+    clear_writes(alloc, store, from, to)
 }

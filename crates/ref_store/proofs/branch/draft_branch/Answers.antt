@@ -4,7 +4,7 @@ use Rattle.ref_text.specs.Refs.{head_name, log_path, logged, ref_path}
 use Rattle.seq_base.specs.World.{World, is_blocked, path_cmp}
 use Rattle.seq_outside.specs.Writes.{are_free, is_written, written}
 use Rattle.ref_store.specs.Moves.{is_log_of}
-use Rattle.ref_store.proofs.Freeing.{drafted_free, drafted_repository}
+use Rattle.ref_store.proofs.Freeing.{behind_ref, drafted_free, drafted_repository, head_log_free}
 use Rattle.ref_store.proofs.Kept.{kept_repository, unwritten_in_kept}
 use Rattle.seq_outside.proofs.FreeWrites.{kept_are_free}
 use Rattle.ref_store.proofs.Moving.{moved_named}
@@ -40,3 +40,11 @@ returns-clause-behind_kept g c told repository kept head other writable =
     let w = g.S.Store.content c.args.store.now in
     let old = c.args.draft.now in
     returns-clause-free g c told (kept_are_free w old repository kept) (unwritten_in_kept old c.args.branch.now c.requires.branch other kept head) (kept_repository w old repository kept) writable
+
+pub returns-clause-keeps : goal.returns-clause-keeps
+returns-clause-keeps g c w keeps writable =
+    let one = c.draft_value.new.draft in
+    let log = behind_ref w c.args.draft.now one c.args.branch.now _ c.requires.branch (c.in_ok-draft_value.ensures.done w) writable.log in
+    let first = c.in_ok-draft_value.ensures.keeps w keeps writable.ref in
+    let second = c.in_ok-draft_line.ensures.keeps w first log in
+    c.in_ok-draft_line-2.ensures.keeps w second (head_log_free (written w c.draft_line.new.draft) second.repository)
