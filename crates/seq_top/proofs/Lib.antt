@@ -1,4 +1,3 @@
-pub mod Appends
 pub mod Ids
 pub mod Least
 pub mod Objects

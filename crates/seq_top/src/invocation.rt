@@ -10,8 +10,8 @@ ghost use Rattle.seq_top.specs.Causes.{HasJudgedCause};
 
 use crate::halt::Halt;
 use crate::pick::pick;
-use crate::reports::report;
 use crate::words::{BadWords, read_words};
+use report_text::report;
 use seq_base::Bytes;
 use seq_model::{Denial, Outcome};
 use seq_outside::{Clock, Env, Sink, SinkError, Spawner, Store};

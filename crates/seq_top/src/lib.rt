@@ -4,9 +4,8 @@
 mod halt;
 mod invocation;
 mod pick;
-mod reports;
 mod words;
 
 pub use invocation::{invoke, run};
-pub use reports::report;
+pub use report_text::report;
 pub use seq_model::Outcome;

@@ -5,11 +5,11 @@ ghost use Rattle.std.specs.Prelude.{◌≡◌, ◌++◌, ◌∷◌, OnOk};
 ghost use Rattle.seq_model.specs.Reasons.{reason_name as reason_name_of, reason_fields};
 ghost use Rattle.seq_model.specs.StopKinds.{stop_kind_name as stop_kind_name_of, stop_kind_fields};
 
-use crate::reports::fields::{
+use crate::fields::{
     push_bytes, push_bytes_exit, push_bytes_found, push_exit, push_found, push_id, push_limit,
     push_todo_bad, push_two_ids,
 };
-use crate::reports::names::{reason_name, stop_kind_name};
+use crate::names::{reason_name, stop_kind_name};
 use seq_model::{Reason, StopKind};
 use std::alloc::AllocError;
 

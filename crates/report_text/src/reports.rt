@@ -1,22 +1,15 @@
 //! What an invocation prints.
 #![tactic(auto, using(crate::proofs::Appends::appends))]
 
-mod fields;
-mod names;
-mod refusals;
-mod stops;
-#[cfg(test)]
-mod tests;
-
 ghost use Rattle.std.specs.Prelude.{◌≡◌, ◌++◌, ◌∷◌, [], IfOk, OnOk, map};
 ghost use Rattle.seq_model.specs.Report.{head_field, lines_after, report_of, unmerged_lines};
 ghost use Rattle.seq_model.specs.UsageFaults.{usage_fault_name as usage_fault_name_of, usage_fault_fields};
 ghost use Rattle.seq_model.specs.StopKinds.{stop_kind_name as stop_kind_name_of, stop_kind_fields};
 
-use crate::reports::fields::{push_bytes, push_id, push_limit, push_two_bytes};
-use crate::reports::names::usage_fault_name;
-use crate::reports::refusals::push_refusal;
-use crate::reports::stops::push_stop;
+use crate::fields::{push_bytes, push_id, push_limit, push_two_bytes};
+use crate::names::usage_fault_name;
+use crate::refusals::push_refusal;
+use crate::stops::push_stop;
 use seq_base::{Id, Path};
 use seq_model::{Outcome, StopKind, UsageFault};
 use std::alloc::{AllocError, Global};

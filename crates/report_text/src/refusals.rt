@@ -4,7 +4,7 @@
 ghost use Rattle.std.specs.Prelude.{◌≡◌, ◌++◌, OnOk};
 ghost use Rattle.seq_model.specs.Refusals.{refusal_name as refusal_name_of, refusal_fields};
 
-use crate::reports::fields::{
+use crate::fields::{
     push_ambiguous, push_bytes, push_bytes_exit, push_exit, push_found, push_id, push_index_fault,
     push_number, push_todo_bad, push_two_ids,
 };

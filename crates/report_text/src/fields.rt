@@ -5,7 +5,7 @@ ghost use Rattle.std.specs.Prelude.{◌≡◌, ◌++◌, OnOk};
 ghost use Rattle.seq_model.specs.IndexFaults.{index_fault_fields};
 ghost use Rattle.seq_model.specs.Fields.{escaped, bytes_field, number_field, id_field, found_field, exit_field, limit_fields, todo_bad_fields};
 
-use crate::reports::names::{limit_what_name, todo_kind_name};
+use crate::names::{limit_what_name, todo_kind_name};
 use index_file::IndexFault;
 use seq_base::Id;
 use seq_model::{LimitWhat, TodoKind};

@@ -1,4 +1,4 @@
-use super::report;
+use crate::report;
 use seq_base::{Bytes, Id, IdFault, Path};
 use seq_model::{LimitWhat, Outcome, Paths, Refusal, StopKind, UsageFault};
 use seq_outside::Exit;
