@@ -3,10 +3,10 @@
 ghost use Rattle.std.specs.Char.{to_ascii_lowercase};
 ghost use Rattle.std.specs.List.{list_all};
 ghost use Rattle.std.specs.Option.{option_to_list};
-ghost use Rattle.std.specs.Prelude.{◌≡◌, ◌≤◌, ◌∷◌, ◌++◌, [], IfOk, MatchOption, codes, drop, false, length, map, take, true};
+ghost use Rattle.std.specs.Prelude.{◌≡◌, ◌≤◌, ◌∷◌, ◌++◌, [], IfErr, IfOk, MatchOption, codes, drop, false, length, map, take, true};
 ghost use Rattle.hex.specs.Hex.{is_hex_digit};
 ghost use Rattle.seq_base.specs.StorePaths.{IsStorePath};
-ghost use Rattle.objects.specs.Causes.{HasReadCause};
+ghost use Rattle.objects.specs.Causes.{HasReadCause, IsFaultOrMemory};
 ghost use Rattle.objects.specs.Prefixes.{AreIdsWith, IsPrefix, begins_with as begins_with_of, id_of_path as id_in_path, ids_among as ids_among_of, ids_with, is_object_path, is_prefix as is_prefix_of};
 
 use crate::fault::ObjectFault;
@@ -111,7 +111,8 @@ fn folder_of(alloc: Global, digits: &[u8]) -> Result<Vec<u8>, AllocError>
 }
 
 /// The ids of all objects in the store that begin with the hex digits, in byte order (gitrevisions(7), "<sha1>"). Digits are
-/// read in either case. An object is there where its file is; other files below the folder of objects are passed over.
+/// read in either case. An object is there where its file is; other files below the folder of objects are passed over. It fails
+/// only where the store does, or for want of memory.
 pub fn with_prefix<S: Store>(
     alloc: Global,
     store: &mut S,
@@ -122,6 +123,7 @@ pub fn with_prefix<S: Store>(
 
     // It follows from `ids`.
     ensures all { S.told → IfOk result (λ ids. AreIdsWith (S.content store.old) digits.now ids.items) }
+    ensures err { IfErr result IsFaultOrMemory }
     ensures same { S.told → S.content store.new ≡ S.content store.old }
     ensures cause { HasReadCause result (S.faults store.old) (S.faults store.new) (S.blocked store.old) (S.blocked store.new) }
 {

@@ -1,5 +1,4 @@
-use Rattle.std.proofs.Common.{ℕ, List, ◌++◌, take, sym, ap, subst, ◌∙◌}
-use Rattle.std.specs.Prelude.{codes}
+use Rattle.std.proofs.Common.{ℕ, List, sym, ap, subst, ◌∙◌}
 use Rattle.seq_outside.specs.Store.{IsFolderPath, files_below}
 use Rattle.objects.specs.Prefixes.{AreIdsWith, ids_among}
 use Rattle.objects.proofs.Folders.{folder_path}
