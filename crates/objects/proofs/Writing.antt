@@ -5,7 +5,7 @@ use Rattle.std.specs.FinMap as map
 use Rattle.std.specs.Cmp.Lexicographic.{nat_list_cmp_total}
 use Rattle.std.specs.Ordering.{eq_by_cmp}
 use Rattle.std.specs.Str.{bytes_eq}
-use Rattle.std.proofs.lemmas.Bool.{both_ways, false_from_ne_true}
+use Rattle.std.proofs.lemmas.Bool.{both_ways}
 use Rattle.std.proofs.lemmas.List.{length-take-le, take-append-drop}
 use Rattle.std.proofs.lemmas.Slice.Eq.{bytes_eq-Decides}
 use Rattle.sha1.specs.Sha1.{sha1}
@@ -15,7 +15,7 @@ use Rattle.seq_base.specs.World.{World, is_blocked, path_cmp}
 use Rattle.seq_base.proofs.Repositories.{kept_is_free, stays_repository_kept}
 use Rattle.seq_base.proofs.Shape.{equal_to_itself}
 use Rattle.object_text.specs.declared.object.Object.{Object}
-use Rattle.object_text.specs.Objects.{header_text, kind_text, object_text, IsObject}
+use Rattle.object_text.specs.Objects.{header_text, kind_text, object_text}
 use Rattle.object_text.specs.Store.{Put, content_limit, object_at, object_id, object_path, put_at, put_object}
 use Rattle.object_text.proofs.ObjectLaws.{object_written}
 use Rattle.objects.specs.Puts.{HasOther, HasPut, IsKept, IsPut}

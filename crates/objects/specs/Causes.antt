@@ -34,3 +34,13 @@ HasPutCause (Err (BadText at)) faults faults' blocked blocked' = (faults' ≡ fa
 HasPutCause (Err (Collision id kept)) faults faults' blocked blocked' = (faults' ≡ faults) × (blocked ≤ blocked')
 HasPutCause (Err Fault) faults faults' blocked blocked' = (faults ≤ faults') × (blocked ≤ blocked') × (Rose faults faults' ⊎ ((faults' ≡ faults) × Rose blocked blocked'))
 HasPutCause (Err Memory) faults faults' blocked blocked' = (faults' ≡ faults) × (blocked ≤ blocked')
+
+-- the store failed, or memory ran out
+abbrev pub IsFaultOrMemory : ObjectFault → Type 0
+IsFaultOrMemory Missing = ⊥
+IsFaultOrMemory (TooLarge length) = ⊥
+IsFaultOrMemory (WrongHash id found) = ⊥
+IsFaultOrMemory (BadText at) = ⊥
+IsFaultOrMemory (Collision id kept) = ⊥
+IsFaultOrMemory Fault = Unit {0}
+IsFaultOrMemory Memory = Unit {0}

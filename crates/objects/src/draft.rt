@@ -1,8 +1,9 @@
 //! Drafting an object.
 
+ghost use Rattle.std.specs.FinMap as map;
 ghost use Rattle.std.specs.List.{AllByRecursion};
 ghost use Rattle.std.specs.Ordering.{eq_by_cmp};
-ghost use Rattle.std.specs.Prelude.{◌≡◌, false, true, IfOk, List, OnErr, OnOk, length, ℕ};
+ghost use Rattle.std.specs.Prelude.{◌≡◌, false, true, IfOk, IsSome, List, OnErr, OnOk, length, ℕ};
 ghost use Rattle.object_text.specs.Store.{object_path};
 ghost use Rattle.objects.specs.Causes.{HasReadCause};
 ghost use Rattle.objects.specs.Drafted.{HasLengthJudged, IsDrafted, Settles};
@@ -11,21 +12,14 @@ ghost use Rattle.seq_base.specs.Repository.{IsRepository};
 ghost use Rattle.seq_outside.specs.Drafts.{is_removed};
 ghost use Rattle.seq_outside.specs.Keeping.{AreWithinGit, KeepsRepository};
 ghost use Rattle.seq_outside.specs.Writes.{IsInPlace, IsKept, are_free, is_written, written};
-ghost use Rattle.sha1.specs.Sha1.{sha1};
 
 use crate::fault::ObjectFault;
 use crate::place::{CONTENT_LIMIT, path_of};
+use crate::read::id_of_text;
 use object_text::{Kind, object_text};
 use seq_base::{Bytes, Id};
 use seq_outside::{Draft, Store};
-use sha1::Sha1;
 use std::alloc::Global;
-
-fn id_of_text(text: &[u8]) -> Id
-    ensures { result ≡ sha1 text.now }
-{
-    Id::from_bytes(Sha1::digest(text))
-}
 
 /// What the text says that stands in the file of an object with this id and text.
 fn settle(id: Id, text: &[u8], kept: Vec<u8>) -> Result<Id, ObjectFault>
@@ -57,6 +51,7 @@ pub fn draft_object<S: Store>(
 ) -> Result<Id, ObjectFault>
     ensures drafted { S.told → IsDrafted (written (S.content store.old) draft.old) (record { kind = kind; bytes = bytes.now }) result (written (S.content store.old) draft.new) }
     ensures limit { HasLengthJudged (length bytes.now) result }
+    ensures left { S.told → IfOk result (λ id. IsSome (map.get (written (S.content store.old) draft.old) (object_path id)) → draft.new ≡ draft.old) }
     ensures err { OnErr result (draft.new ≡ draft.old) }
     ensures named { IfOk result (λ id. (q : List ℕ) → eq_by_cmp path_cmp q (object_path id) ≡ false → is_written draft.new q ≡ is_written draft.old q) }
     ensures free { IfOk result (λ id. (w : World) → are_free w draft.old ≡ true → IsRepository (written w draft.old) → is_removed draft.old (object_path id) ≡ false → are_free w draft.new ≡ true) }

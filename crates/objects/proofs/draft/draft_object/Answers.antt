@@ -1,4 +1,5 @@
-use Rattle.std.proofs.Common.{◌≡◌, true, List, ℕ, ap, sym, subst, ◌∙◌}
+use Rattle.std.proofs.Common.{◌≡◌, true, List, Option, ℕ, ap, sym, subst, ◌∙◌}
+use Rattle.std.specs.Prelude.{IsSome}
 use Rattle.seq_base.specs.Paths.{parts}
 use Rattle.seq_base.specs.Repository.{is_file_place}
 use Rattle.seq_base.proofs.Repositories.{kept_is_free}
@@ -27,6 +28,13 @@ returns-in_ok-put-in-None-clause-drafted g c told =
     let none = rw c.in-None.is at (c.in_ok-kept.ensures.found told) in
     drafted_new w _ c.id_of_text-id.result c.in_ok-text.text.items c.in_ok-path.path.items c.in_ok-text.ensures.text id c.in_ok-path.ensures.path
     (written v c.put.new.self) (none ∙ ap (map.get w) c.deref-2.ensures.value) (rw (c.from_vec.ensures, c.from_vec-in-None.ensures) at (c.in_ok-put-in-None.ensures.done v))
+
+pub returns-in_ok-put-in-None-clause-left : goal.returns-in_ok-put-in-None-clause-left
+returns-in_ok-put-in-None-clause-left g c told some =
+    let w = written (g.S.Store.content c.args.store.now) c.args.draft.now in
+    let none = rw c.in-None.is at (c.in_ok-kept.ensures.found told) in
+    let there = subst (λ (found : Option (List ℕ)). IsSome found) (sym (none ∙ ap (map.get w) (c.deref-2.ensures.value ∙ c.in_ok-path.ensures.path))) some in
+    absurd cc
 
 pub returns-in_ok-put-in-None-clause-named : goal.returns-in_ok-put-in-None-clause-named
 returns-in_ok-put-in-None-clause-named g c q other = neither_new _ (is_written c.args.draft.now q) _ (c.in_ok-put-in-None.ensures.named q) (ap (eq_by_cmp path_cmp q) (c.from_vec.ensures ∙ c.in_ok-path.ensures.path) ∙ other)
