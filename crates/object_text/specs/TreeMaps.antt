@@ -1,7 +1,9 @@
 -- Trees of trees as maps from paths (git-ls-tree(1), -r), and the trees of a map (git-write-tree(1)).
-use Rattle.std.specs.Prelude.{ℕ, zero, suc, ◌+◌, Bool, true, false, not, ◌&&◌, ◌==◌, nat_le, if◌then◌else◌, List, [], ◌∷◌, ◌++◌, length, map, sum_by, take, drop, Option, Some, None, Result, Ok, Err}
-use Rattle.std.specs.List.{filter, list_all, starts_with, position_or_len}
+use Rattle.std.specs.Prelude.{ℕ, zero, suc, Bool, true, false, ◌&&◌, ◌==◌, nat_le, nat_lt, if◌then◌else◌, List, [], ◌∷◌, ◌++◌, length, Option, Some, None, Result, Ok, Err}
+use Rattle.std.specs.List.{list_all, list_any}
+use Rattle.std.specs.Str.{bytes_eq}
 use Rattle.std.specs.Str.Lossy.{utf8_valid_len}
+use Rattle.seq_base.specs.Paths.{parts}
 use Rattle.seq_base.specs.World.{World}
 use Rattle.seq_base.specs.declared.mode.Mode.{Mode}
 use Rattle.seq_base.specs.declared.mode.Mode.TheVariants.{File, Exec, Link, Gitlink, Folder}
@@ -10,7 +12,7 @@ use Rattle.object_text.specs.declared.object.Kind.TheVariants.{Tree}
 use Rattle.object_text.specs.declared.object.Object.{Object}
 use Rattle.object_text.specs.declared.tree.TreeEntry.{TreeEntry}
 use Rattle.object_text.specs.Trees.{tree_text}
-use Rattle.object_text.specs.Store.{object_id, tree_at}
+use Rattle.object_text.specs.Store.{Put, content_limit, object_id, put_object, tree_at}
 
 -- why a tree has no map: a tree that cannot be read or holds a path that is none, or one that lies too deep
 pub data MapFault : Type 0 where
@@ -69,48 +71,73 @@ tree_object es = record { kind = Tree; bytes = tree_text es }
 abbrev pub tree_id : List TreeEntry → List ℕ
 tree_id es = object_id (tree_object es)
 
--- the front of a path up to a slash, or all of it
-abbrev pub first_part : List ℕ → List ℕ
-first_part path = take (position_or_len (λ b. b == 47) path) path
+-- what a folder lists, in order: a file or a folder, with what that lists, before all others
+pub data Listing : Type 0 where
+  NoMore : Listing
+  OneFile : List ℕ → Entry → Listing → Listing
+  OneFolder : List ℕ → Listing → Listing → Listing
 
--- a path of one part
-abbrev pub is_leaf : List ℕ → Bool
-is_leaf path = position_or_len (λ b. b == 47) path == length path
+-- a change of what the folder of this name lists, which comes first or is new
+abbrev pub in_folder : List ℕ → (Listing → Listing) → Listing → Listing
+in_folder name change NoMore = OneFolder name (change NoMore) NoMore
+in_folder name change (OneFile first entry others) = OneFolder name (change NoMore) (OneFile first entry others)
+in_folder name change (OneFolder first its others) =
+    if bytes_eq first name then OneFolder name (change its) others else OneFolder name (change NoMore) (OneFolder first its others)
 
-abbrev pub is_inside : List ℕ → List ℕ → Bool
-is_inside folder path = starts_with (λ x y. x == y) path (folder ++ 47 ∷ [])
+-- a file, by the parts of its path, before all that is listed
+unfoldable pub with_file : List (List ℕ) → Entry → Listing → Listing
+with_file [] entry listing = listing
+with_file (name ∷ []) entry listing = OneFile name entry listing
+with_file (name ∷ next ∷ more) entry listing = in_folder name (with_file (next ∷ more) entry) listing
 
--- the paths below a folder, without it; those elsewhere
-abbrev pub inside : List ℕ → List (List ℕ × Entry) → List (List ℕ × Entry)
-inside folder es = map (λ e. (drop (length folder + 1) e.0, e.1)) (filter (λ e. is_inside folder e.0) es)
+-- what the root lists of a map, whose paths are in order
+unfoldable pub listing_of : List (List ℕ × Entry) → Listing
+listing_of [] = NoMore
+listing_of (e ∷ es) = with_file (parts e.0) e.1 (listing_of es)
 
-abbrev pub outside : List ℕ → List (List ℕ × Entry) → List (List ℕ × Entry)
-outside folder es = filter (λ e. not (is_inside folder e.0)) es
+-- the entries of a folder's tree
+unfoldable pub tree_entries : Listing → List TreeEntry
+tree_entries NoMore = []
+tree_entries (OneFile name entry others) = record { mode = entry.mode; name = name; id = entry.id } ∷ tree_entries others
+tree_entries (OneFolder name its others) = record { mode = Folder; name = name; id = tree_id (tree_entries its) } ∷ tree_entries others
 
--- the entries of the root's tree; n is no less than the bytes of the paths and their number
-unfoldable pub root_entries : ℕ → List (List ℕ × Entry) → List TreeEntry
-root_entries zero es = []
-root_entries (suc n) [] = []
-root_entries (suc n) (e ∷ es) =
-    if is_leaf e.0 then record { mode = e.1.mode; name = e.0; id = e.1.id } ∷ root_entries n es
-    else record { mode = Folder; name = first_part e.0; id = tree_id (root_entries n (inside (first_part e.0) (e ∷ es))) } ∷ root_entries n (outside (first_part e.0) (e ∷ es))
-
--- the trees of the folders below the root, a folder after its subfolders
-unfoldable pub folder_trees : ℕ → List (List ℕ × Entry) → List (List TreeEntry)
-folder_trees zero es = []
-folder_trees (suc n) [] = []
-folder_trees (suc n) (e ∷ es) =
-    if is_leaf e.0 then folder_trees n es
-    else folder_trees n (inside (first_part e.0) (e ∷ es)) ++ root_entries n (inside (first_part e.0) (e ∷ es)) ∷ folder_trees n (outside (first_part e.0) (e ∷ es))
-
--- the bytes of the paths and their number
-abbrev pub size_of : List (List ℕ × Entry) → ℕ
-size_of es = sum_by (λ e. length e.0 + 1) es
+-- the trees of the folders that a folder lists, a folder after its subfolders
+unfoldable pub folder_trees : Listing → List (List TreeEntry)
+folder_trees NoMore = []
+folder_trees (OneFile name entry others) = folder_trees others
+folder_trees (OneFolder name its others) = folder_trees its ++ tree_entries its ∷ folder_trees others
 
 -- one tree for each folder of a map, a folder after its subfolders, and the root last
 unfoldable pub trees_of : List (List ℕ × Entry) → List (List TreeEntry)
-trees_of es = folder_trees (size_of es) es ++ root_entries (size_of es) es ∷ []
+trees_of es = folder_trees (listing_of es) ++ tree_entries (listing_of es) ∷ []
 
 -- the id of the root's tree
 unfoldable pub root_of : List (List ℕ × Entry) → List ℕ
-root_of es = tree_id (root_entries (size_of es) es)
+root_of es = tree_id (tree_entries (listing_of es))
+
+-- a path has so many parts that its last tree could not be read back
+unfoldable pub is_too_deep : List (List ℕ × Entry) → Bool
+is_too_deep es = list_any (λ e. nat_lt 256 (length (parts e.0))) es
+
+-- ---- putting trees
+
+-- why a tree was not put: it is so long, more than an object may be, or another text stands in the file of its id
+pub data PutFault : Type 0 where
+  IsLarge : ℕ → PutFault
+  IsTaken : List ℕ → PutFault
+
+abbrev pub unless_taken : Put → Result World PutFault
+unless_taken put = elim put.collision [ None ↦ Ok put.world | Some id ↦ Err (IsTaken id) ]
+
+-- the world with a tree in its file
+unfoldable pub put_tree : World → List TreeEntry → Result World PutFault
+put_tree w tree = if nat_lt content_limit (length (tree_text tree)) then Err (IsLarge (length (tree_text tree))) else unless_taken (put_object w (tree_object tree))
+
+abbrev pub and_then : Result World PutFault → (World → Result World PutFault) → Result World PutFault
+and_then (Ok w) next = next w
+and_then (Err fault) next = Err fault
+
+-- the world with trees put one after another, or why the first that was not put was not
+unfoldable pub put_trees : World → List (List TreeEntry) → Result World PutFault
+put_trees w [] = Ok w
+put_trees w (tree ∷ trees) = and_then (put_tree w tree) (λ next. put_trees next trees)

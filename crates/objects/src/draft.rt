@@ -59,6 +59,7 @@ pub fn draft_object<S: Store>(
     ensures err { OnErr result (draft.new ≡ draft.old) }
     ensures named { IfOk result (λ id. (q : List ℕ) → eq_by_cmp path_cmp q (object_path id) ≡ false → is_written draft.new q ≡ is_written draft.old q) }
     ensures free { IfOk result (λ id. (w : World) → are_free w draft.old ≡ true → IsRepository (written w draft.old) → is_removed draft.old (object_path id) ≡ false → are_free w draft.new ≡ true) }
+    ensures repository { OnOk result ((w : World) → IsRepository (written w draft.old) → IsRepository (written w draft.new)) }
     ensures removed { OnOk result ((q : List ℕ) → is_removed draft.old q ≡ false → is_removed draft.new q ≡ false) }
     ensures in_place { OnOk result (AllByRecursion IsInPlace draft.old → AllByRecursion IsInPlace draft.new) }
     ensures kept { OnOk result (AllByRecursion IsKept draft.old → AllByRecursion IsKept draft.new) }

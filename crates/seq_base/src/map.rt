@@ -90,6 +90,14 @@ impl PathMap {
         entry_of(&self.entries, path)
     }
 
+    /// The paths and what stands at them, in byte order of the paths.
+    pub fn entries(&self) -> &[(Path, Entry)]
+        ensures entries { result.now ≡ self.now }
+        ensures map { IsPathMap self.now }
+    {
+        &self.entries
+    }
+
     pub fn len(&self) -> usize
         ensures value { result ≡ length self.now }
         ensures map { IsPathMap self.now }
