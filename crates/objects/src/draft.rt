@@ -3,7 +3,7 @@
 ghost use Rattle.std.specs.List.{AllByRecursion};
 ghost use Rattle.std.specs.Ordering.{eq_by_cmp};
 ghost use Rattle.std.specs.Prelude.{◌≡◌, false, true, IfOk, List, OnErr, OnOk, length, ℕ};
-ghost use Rattle.object_text.specs.Store.{object_path};
+ghost use Rattle.object_text.specs.Store.{object_id, object_path};
 ghost use Rattle.objects.specs.Causes.{HasReadCause};
 ghost use Rattle.objects.specs.Drafted.{HasLengthJudged, IsDrafted, Settles};
 ghost use Rattle.seq_base.specs.World.{World, path_cmp};
@@ -55,6 +55,7 @@ pub fn draft_object<S: Store>(
     bytes: &[u8],
 ) -> Result<Id, ObjectFault>
     ensures drafted { S.told → IsDrafted (written (S.content store.old) draft.old) (record { kind = kind; bytes = bytes.now }) result (written (S.content store.old) draft.new) }
+    ensures id { IfOk result (λ id. id ≡ object_id (record { kind = kind; bytes = bytes.now })) }
     ensures limit { HasLengthJudged (length bytes.now) result }
     ensures err { OnErr result (draft.new ≡ draft.old) }
     ensures named { IfOk result (λ id. (q : List ℕ) → eq_by_cmp path_cmp q (object_path id) ≡ false → is_written draft.new q ≡ is_written draft.old q) }

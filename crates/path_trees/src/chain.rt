@@ -14,6 +14,7 @@ fn depth(path: &[u8]) -> usize
     path.split(|b| *b == b'/').count()
 }
 
+#[tactic(auto, unfolding(object_text::specs::TreeMaps::is_too_deep))]
 /// Whether the last tree of a path's chain could not be read back. Else each of these is known to be a path.
 pub fn is_too_deep(rows: &[(Path, Entry)]) -> bool
     ensures deep { result ≡ is_too_deep_map rows.now }

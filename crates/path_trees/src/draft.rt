@@ -1,7 +1,7 @@
 //! Drafting the trees of a map.
 
-ghost use Rattle.std.specs.Prelude.{◌≡◌, ◌↔◌, ◌≤◌, ◌++◌, ◌∷◌, [], false, true, IfOk, IsErrOf, List, length, ℕ};
-ghost use Rattle.std.specs.List.{AllByRecursion};
+ghost use Rattle.std.specs.Prelude.{◌≡◌, ◌==◌, ◌↔◌, ◌≤◌, ◌++◌, ◌∷◌, [], false, true, IfOk, IsErrOf, List, length, ℕ};
+ghost use Rattle.std.specs.List.{AllByRecursion, position};
 ghost use Rattle.object_text.specs.TreeMaps.{is_too_deep as is_too_deep_map, put_tree, put_trees, root_of, tree_id, trees_of};
 ghost use Rattle.object_text.specs.Trees.{IsTreeOrder};
 ghost use Rattle.seq_base.specs.Repository.{IsRepository};
@@ -28,6 +28,7 @@ fn draft_tree<S: Store>(
 ) -> Result<Id, TreeFault>
     requires { IsTreeOrder entries.now }
     ensures drafted { S.told → IsDraftedAs (tree_id entries.now) (put_tree (written (S.content store.old) draft.old) entries.now) result (written (S.content store.old) draft.new) }
+    ensures root { IfOk result (λ id. id ≡ tree_id entries.now) }
     ensures depth { IsErrOf result TreeFault.Depth → ⊥ }
     ensures adds { AddsObjects draft.old draft.new }
     ensures same { S.told → S.content store.new ≡ S.content store.old }
@@ -47,10 +48,18 @@ fn entry(alloc: Global, mode: Mode, name: &[u8], id: Id) -> Result<TreeEntry, Al
     Ok(TreeEntry { mode, name, id })
 }
 
+/// Where the first part of a path ends, unless it is the last.
+fn slash_at(path: &[u8]) -> Option<usize>
+    ensures { result ≡ position (λ b. b == 47) path.now }
+{
+    path.iter().position(|b| *b == b'/')
+}
+
 /// How many of the first rows stand in the folder of this name with its slash.
 fn count_inside(rows: &[(Path, Entry)], skip: usize, folder: &[u8]) -> usize
     requires { AllByRecursion (λ e. skip ≤ length e.0) rows.now }
-    ensures { result ≡ count_inside_folder folder.now (cut skip rows.now) }
+    ensures count { result ≡ count_inside_folder folder.now (cut skip rows.now) }
+    ensures within { result ≤ length rows.now }
 {
     let mut count = 0;
     let mut rest = rows;
@@ -75,6 +84,7 @@ fn draft_folder<S: Store>(
 ) -> Result<Id, TreeFault>
     requires { GoesOnBehind skip rows.now }
     ensures drafted { S.told → IsDraftedAs (root_of (cut skip rows.now)) (put_trees (written (S.content store.old) draft.old) (trees_of (cut skip rows.now))) result (written (S.content store.old) draft.new) }
+    ensures root { IfOk result (λ id. id ≡ root_of (cut skip rows.now)) }
     ensures depth { IsErrOf result TreeFault.Depth → ⊥ }
     ensures adds { AddsObjects draft.old draft.new }
     ensures same { S.told → S.content store.new ≡ S.content store.old }
@@ -84,7 +94,7 @@ fn draft_folder<S: Store>(
     let mut rest = rows;
     while let [row, after @ ..] = rest {
         let path = &row.0.bytes()[skip..];
-        match path.iter().position(|b| *b == b'/') {
+        match slash_at(path) {
             None => {
                 entries.push(entry(alloc, row.1.mode, path, row.1.id)?)?;
                 rest = after;
@@ -111,6 +121,7 @@ pub fn draft_map<S: Store>(
     map: &PathMap,
 ) -> Result<Id, TreeFault>
     ensures drafted { S.told → IsDraftedAs (root_of map.now) (put_trees (written (S.content store.old) draft.old) (trees_of map.now)) result (written (S.content store.old) draft.new) }
+    ensures root { IfOk result (λ id. id ≡ root_of map.now) }
     ensures depth { IsErrOf result TreeFault.Depth ↔ (is_too_deep_map map.now ≡ true) }
     ensures named { (path : List ℕ) → is_elsewhere path ≡ true → is_written draft.new path ≡ is_written draft.old path }
     ensures free { (w : World) → are_free w draft.old ≡ true → IsRepository (written w draft.old) → KeepsObjects draft.old → are_free w draft.new ≡ true }
