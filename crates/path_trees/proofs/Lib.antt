@@ -9,3 +9,4 @@ pub mod Added
 pub mod Cuts
 pub mod TreeOrder
 pub mod Folders
+pub mod PathNames

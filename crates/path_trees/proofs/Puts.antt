@@ -73,3 +73,49 @@ put_trees-one w tree = by (put_tree w tree)
     by : (put : Result World PutFault) → and_then put (λ next. Ok next) ≡ put
     by (Ok next) = refl
     by (Err fault) = refl
+
+-- ---- what was put
+
+-- the tree was not too large, and no other text stood in its file
+pub record WasPut (w : World) (tree : List TreeEntry) (now : World) : Type 0 where
+  pub within : length (tree_text tree) ≤ content_limit
+  pub free : (put_object w (tree_object tree)).collision ≡ None
+  pub world : (put_object w (tree_object tree)).world ≡ now
+
+pub was_put : (w : World) (tree : List TreeEntry) (now : World) → put_tree w tree ≡ Ok now → WasPut w tree now
+unfolding put_tree
+was_put w tree now is = by (nat_lt content_limit (length (tree_text tree))) refl is
+  where
+    at : (found : Option (List ℕ)) → (put_object w (tree_object tree)).collision ≡ found → length (tree_text tree) ≤ content_limit
+        → elim found as (λ o. Result World PutFault) [ None ↦ Ok (put_object w (tree_object tree)).world | Some id ↦ Err (IsTaken id) ] ≡ Ok now → WasPut w tree now
+    at None free within put = record { within = within; free = free; world = cc }
+    at (Some id) free within put = absurd cc
+
+    by : (above : Bool) → nat_lt content_limit (length (tree_text tree)) ≡ above → cond above (Err (IsLarge (length (tree_text tree)))) (unless_taken (put_object w (tree_object tree))) ≡ Ok now → WasPut w tree now
+    by true above put = absurd cc
+    by false above put =
+        let within : length (tree_text tree) ≤ content_limit = grind (arith, nat_tests) in
+        at (put_object w (tree_object tree)).collision refl within put
+
+pub record WerePut (w : World) (tree : List TreeEntry) (trees : List (List TreeEntry)) (now : World) : Type 0 where
+  pub next : World
+  pub first : put_tree w tree ≡ Ok next
+  pub others : put_trees next trees ≡ Ok now
+
+pub were_put : (w : World) (tree : List TreeEntry) (trees : List (List TreeEntry)) (now : World) → put_trees w (tree ∷ trees) ≡ Ok now → WerePut w tree trees now
+unfolding put_trees
+were_put w tree trees now is = by (put_tree w tree) refl is
+  where
+    by : (put : Result World PutFault) → put_tree w tree ≡ put → and_then put (λ next. put_trees next trees) ≡ Ok now → WerePut w tree trees now
+    by (Ok next) first others = record { next = next; first = first; others = others }
+    by (Err fault) first others = absurd cc
+
+-- so it is as if the objects of the trees were put
+pub all_put : (w : World) (trees : List (List TreeEntry)) (now : World) → put_trees w trees ≡ Ok now → put_all w (map tree_object trees) ≡ record { world = now; collision = None }
+unfolding put_all put_trees
+all_put w [] now is = let same : w ≡ now = cc in ap (λ (v : World). record { world = v; collision = None }) same
+all_put w (tree ∷ trees) now is =
+    let put = were_put w tree trees now is in
+    let first = was_put w tree put.next put.first in
+    ap (λ (found : Option (List ℕ)). or_ended (put_object w (tree_object tree)) found (put_all (put_object w (tree_object tree)).world (map tree_object trees))) first.free
+    ∙ (ap (λ (v : World). put_all v (map tree_object trees)) first.world ∙ all_put put.next trees now put.others)
