@@ -4,7 +4,7 @@ ghost use Rattle.std.specs.FinMap as map;
 ghost use Rattle.std.specs.List.{AllByRecursion};
 ghost use Rattle.std.specs.Ordering.{eq_by_cmp};
 ghost use Rattle.std.specs.Prelude.{◌≡◌, false, true, IfOk, IsSome, List, OnErr, OnOk, length, ℕ};
-ghost use Rattle.object_text.specs.Store.{object_path};
+ghost use Rattle.object_text.specs.Store.{object_id, object_path};
 ghost use Rattle.objects.specs.Causes.{HasReadCause};
 ghost use Rattle.objects.specs.Drafted.{HasLengthJudged, IsDrafted, Settles};
 ghost use Rattle.seq_base.specs.World.{World, path_cmp};
@@ -50,11 +50,13 @@ pub fn draft_object<S: Store>(
     bytes: &[u8],
 ) -> Result<Id, ObjectFault>
     ensures drafted { S.told → IsDrafted (written (S.content store.old) draft.old) (record { kind = kind; bytes = bytes.now }) result (written (S.content store.old) draft.new) }
+    ensures id { IfOk result (λ id. id ≡ object_id (record { kind = kind; bytes = bytes.now })) }
     ensures limit { HasLengthJudged (length bytes.now) result }
     ensures left { S.told → IfOk result (λ id. IsSome (map.get (written (S.content store.old) draft.old) (object_path id)) → draft.new ≡ draft.old) }
     ensures err { OnErr result (draft.new ≡ draft.old) }
     ensures named { IfOk result (λ id. (q : List ℕ) → eq_by_cmp path_cmp q (object_path id) ≡ false → is_written draft.new q ≡ is_written draft.old q) }
     ensures free { IfOk result (λ id. (w : World) → are_free w draft.old ≡ true → IsRepository (written w draft.old) → is_removed draft.old (object_path id) ≡ false → are_free w draft.new ≡ true) }
+    ensures repository { OnOk result ((w : World) → IsRepository (written w draft.old) → IsRepository (written w draft.new)) }
     ensures removed { OnOk result ((q : List ℕ) → is_removed draft.old q ≡ false → is_removed draft.new q ≡ false) }
     ensures in_place { OnOk result (AllByRecursion IsInPlace draft.old → AllByRecursion IsInPlace draft.new) }
     ensures kept { OnOk result (AllByRecursion IsKept draft.old → AllByRecursion IsKept draft.new) }

@@ -3,3 +3,10 @@ pub mod Order
 pub mod Paths
 pub mod Build
 pub mod Depth
+pub mod Listings
+pub mod Puts
+pub mod Added
+pub mod Cuts
+pub mod TreeOrder
+pub mod Folders
+pub mod PathNames

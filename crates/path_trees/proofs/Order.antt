@@ -28,7 +28,7 @@ abbrev pub tail : Bool → List ℕ → List ℕ
 tail true rest = 47 ∷ rest
 tail false rest = []
 
-swapped : (x y : ℕ) → (x == y) ≡ false → (y == x) ≡ false
+pub swapped : (x y : ℕ) → (x == y) ≡ false → (y == x) ≡ false
 swapped x y other = false_from_ne_true (y == x) (λ is. both_ways (x == y) other (eq-eqb x y (sym (eqb-true y x is))))
 
 -- ---- the first byte
@@ -36,7 +36,7 @@ swapped x y other = false_from_ne_true (y == x) (λ is. both_ways (x == y) other
 heads_apart : (x y : ℕ) (p q : List ℕ) → (x == y) ≡ false → clashes (x ∷ p) (y ∷ q) ≡ false
 heads_apart x y p q other = let back = swapped x y other in rw (other, back) refl
 
-head_less : (x y : ℕ) (u v : Ordering) → (x == y) ≡ false → is_lt (ordering_then (nat_cmp x y) u) ≡ true → is_lt (ordering_then (nat_cmp x y) v) ≡ true
+pub head_less : (x y : ℕ) (u v : Ordering) → (x == y) ≡ false → is_lt (ordering_then (nat_cmp x y) u) ≡ true → is_lt (ordering_then (nat_cmp x y) v) ≡ true
 head_less x y u v other = at (nat_cmp x y) refl
   where
     at : (o : Ordering) → nat_cmp x y ≡ o → is_lt (ordering_then o u) ≡ true → is_lt (ordering_then o v) ≡ true
@@ -53,10 +53,10 @@ itself x =
     let same : (x == x) ≡ true = eq-eqb x x refl in
     rw (low, same) refl
 
-same_less : (x : ℕ) (p q : List ℕ) → is_less (x ∷ p) (x ∷ q) ≡ is_less p q
+pub same_less : (x : ℕ) (p q : List ℕ) → is_less (x ∷ p) (x ∷ q) ≡ is_less p q
 same_less x p q = ap (λ (o : Ordering). is_lt (ordering_then o (slice_cmp nat_cmp p q))) (itself x)
 
-same_free : (x : ℕ) (p q : List ℕ) → clashes (x ∷ p) (x ∷ q) ≡ clashes p q
+pub same_free : (x : ℕ) (p q : List ℕ) → clashes (x ∷ p) (x ∷ q) ≡ clashes p q
 same_free x p q = let same : (x == x) ≡ true = eq-eqb x x refl in rw same refl
 
 onto : (x : ℕ) (p q : List ℕ) → IsApart p q → IsApart (x ∷ p) (x ∷ q)
@@ -68,10 +68,10 @@ front_apart (x ∷ front) p q h = onto x (front ++ p) (front ++ q) (front_apart 
 
 -- ---- names
 
-abbrev has_no_slash : List ℕ → Bool
+abbrev pub has_no_slash : List ℕ → Bool
 has_no_slash name = list_all (λ b. not (b == 47)) name
 
-no_slash : (b : ℕ) (name : List ℕ) → has_no_slash (b ∷ name) ≡ true → (b == 47) ≡ false
+pub no_slash : (b : ℕ) (name : List ℕ) → has_no_slash (b ∷ name) ≡ true → (b == 47) ≡ false
 no_slash b name h = not-true (b == 47) (and_parts (not (b == 47)) (has_no_slash name) h).0
 
 names : (s t : Bool) (ra rb a b : List ℕ) → has_no_slash a ≡ true → has_no_slash b ≡ true → bytes_eq a b ≡ false
@@ -115,7 +115,7 @@ abbrev pub AreInOrder : List (List ℕ × Entry) → Type 0
 AreInOrder [] = Unit {0}
 AreInOrder (r ∷ rows) = AllByRecursion (Precedes r) rows × AreInOrder rows
 
-key_is : (m : Mode) (name : List ℕ) → key m name ≡ name ++ tail (is_folder m) []
+pub key_is : (m : Mode) (name : List ℕ) → key m name ≡ name ++ tail (is_folder m) []
 key_is Folder name = refl
 key_is File name = sym (append-nil name)
 key_is Exec name = sym (append-nil name)

@@ -1,11 +1,12 @@
 //! Why a tree has no map, or a map no trees.
 
 ghost use Rattle.std.specs.Prelude.{◌≡◌};
-ghost use Rattle.path_trees.specs.Faults.{fault_at as fault_of_object};
+ghost use Rattle.path_trees.specs.Faults.{IsOfPut, fault_at as fault_of_object, put_fault_at, store_fault_at};
 ghost use Rattle.path_trees.specs.declared.fault.TreeFault.TheVariants.{Memory};
 
 use objects::ObjectFault;
 use seq_base::Id;
+use seq_outside::StoreError;
 use std::alloc::{AllocError, AllocFailed};
 use thiserror::Error;
 
@@ -43,6 +44,18 @@ impl<T: Drop> From<AllocFailed<T>> for TreeFault {
     }
 }
 
+impl From<StoreError> for TreeFault {
+    ghost from_gives = { λ error fault. fault ≡ store_fault_at error };
+
+    fn from(error: StoreError) -> TreeFault {
+        match error {
+            StoreError::Failed => TreeFault::Fault,
+            StoreError::Blocked => TreeFault::Fault,
+            StoreError::Memory => TreeFault::Memory,
+        }
+    }
+}
+
 /// What is answered of an object that was not read or put.
 pub fn fault_at(id: Id, fault: ObjectFault) -> TreeFault
     ensures { result ≡ fault_of_object id fault }
@@ -55,5 +68,20 @@ pub fn fault_at(id: Id, fault: ObjectFault) -> TreeFault
         ObjectFault::Collision { .. } => TreeFault::BadObject { id },
         ObjectFault::Fault => TreeFault::Fault,
         ObjectFault::Memory => TreeFault::Memory,
+    }
+}
+
+/// What is answered of a tree that was not put.
+pub fn put_fault(fault: ObjectFault) -> TreeFault
+    requires { IsOfPut fault }
+    ensures { result ≡ put_fault_at fault }
+{
+    match fault {
+        ObjectFault::TooLarge { length } => TreeFault::TooLarge { length },
+        ObjectFault::WrongHash { id, .. } => TreeFault::BadObject { id },
+        ObjectFault::Collision { id, .. } => TreeFault::BadObject { id },
+        ObjectFault::Fault => TreeFault::Fault,
+        ObjectFault::Memory => TreeFault::Memory,
+        ObjectFault::Missing | ObjectFault::BadText { .. } => unreachable!(),
     }
 }

@@ -2,10 +2,12 @@
 use Rattle.std.proofs.Common.{◌≡◌, ℕ, ◌+◌, ◌-◌, ◌*◌, ◌/◌, ◌<◌, ◌≤◌, ◌⊎◌, ◌&&◌, ◌==◌, Bool, true, false, cond, nat_lt, List, [], ◌∷◌, ◌++◌, length, get_or, inl, inr, refl, sym, ap, subst, ◌∙◌, arith}
 use Rattle.std.specs.Prelude.{nat_le}
 use Rattle.std.specs.Int.{is_in_range}
+use Rattle.std.specs.List.{list_all}
 use Rattle.std.specs.Str.{IsUtf8}
 use Rattle.std.specs.Str.Lossy.{second_byte_min, second_byte_max}
 use Rattle.std.proofs.Math.Utf8.{encode, encodes, scalar, scalars, next, scalar_cases, low_scalar}
 use Rattle.std.proofs.lemmas.Bool.{and_parts, and_from, or_left, or_right, cases_lt, lt-ltb, le-ltb, leb-true, le-leb, eqb-true, eqb-false, cond-true, cond-false}
+use Rattle.std.proofs.lemmas.List.Folds.{list_all-append}
 use Rattle.std.proofs.lemmas.Str.{IsUtf8-encode}
 use Rattle.seq_base.specs.RefNameFronts.{begins_char, char_size, follows, is_char, is_lead, is_second}
 
@@ -122,6 +124,28 @@ first_char bs some text = at text.0 text.1.0 text.1.1
     at : (cs : List ℕ) → scalars cs ≡ true → encodes cs ≡ bs → (c : ℕ) × (r : List ℕ) × Shape c × (bs ≡ encode c ++ r)
     at [] h e = absurd (omega (arith, ap length e))
     at (c ∷ cs) h e = (c, encodes cs, shape c (scalar_cases c (and_parts (scalar c) (scalars cs) h).0), sym e)
+
+shape_fits : (c : ℕ) → Shape c → list_all (λ b. nat_lt b 256) (encode c) ≡ true
+shape_fits c (of1 h is) = rw is (and_from (nat_lt c 256) true (lt-ltb c 256 (omega arith)) refl)
+shape_fits c (of2 a b low high second is) =
+    let follow = second.follow in
+    rw is (and_from (nat_lt a 256) _ (lt-ltb a 256 (omega arith)) (and_from (nat_lt b 256) true (lt-ltb b 256 (omega arith)) refl))
+shape_fits c (of3 a b d low high second follow is) =
+    let next = second.follow in
+    rw is (and_from (nat_lt a 256) _ (lt-ltb a 256 (omega arith)) (and_from (nat_lt b 256) _ (lt-ltb b 256 (omega arith)) (and_from (nat_lt d 256) true (lt-ltb d 256 (omega arith)) refl)))
+shape_fits c (of4 a b d e low high second third fourth is) =
+    let next = second.follow in
+    rw is (and_from (nat_lt a 256) _ (lt-ltb a 256 (omega arith)) (and_from (nat_lt b 256) _ (lt-ltb b 256 (omega arith)) (and_from (nat_lt d 256) _ (lt-ltb d 256 (omega arith)) (and_from (nat_lt e 256) true (lt-ltb e 256 (omega arith)) refl))))
+
+-- text is bytes
+pub text_fits : (bs : List ℕ) → IsUtf8 bs → list_all (λ b. nat_lt b 256) bs ≡ true
+text_fits bs text = subst (λ (xs : List ℕ). list_all (λ b. nat_lt b 256) xs ≡ true) text.1.1 (all text.0 text.1.0)
+  where
+    all : (cs : List ℕ) → scalars cs ≡ true → list_all (λ b. nat_lt b 256) (encodes cs) ≡ true
+    all [] h = refl
+    all (c ∷ cs) h =
+        let both = and_parts (scalar c) (scalars cs) h in
+        list_all-append (λ b. nat_lt b 256) (encode c) (encodes cs) ∙ and_from (list_all (λ b. nat_lt b 256) (encode c)) (list_all (λ b. nat_lt b 256) (encodes cs)) (shape_fits c (shape c (scalar_cases c both.0))) (all cs both.1)
 
 -- ---- one byte more
 

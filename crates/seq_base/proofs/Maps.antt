@@ -31,6 +31,12 @@ less_is a b e = at (slice_cmp nat_cmp a b) e
 less_trans : (a b c : List ℕ) → is_less a b ≡ true → is_less b c ≡ true → is_less a c ≡ true
 less_trans a b c p q = ap is_lt (nat_list_cmp_total.trans a b c (less_is a b p) (less_is b c q))
 
+pub less_antisymmetric : (a b : List ℕ) → is_less a b ≡ true → is_less b a ≡ true → ⊥
+less_antisymmetric a b p q =
+    let same = is_eq-slice_cmp a a ∙ (bytes_eq-Decides a a).1 refl in
+    let less = ap is_eq (less_is a a (less_trans a b a p q)) in
+    absurd cc
+
 otherwise_less : (a b : List ℕ) → bytes_eq a b ≡ false → is_less b a ≡ false → is_less a b ≡ true
 otherwise_less a b ne nl = at (slice_cmp nat_cmp a b) refl
   where

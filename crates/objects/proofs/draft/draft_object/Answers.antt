@@ -2,7 +2,8 @@ use Rattle.std.proofs.Common.{◌≡◌, true, List, Option, ℕ, ap, sym, subst
 use Rattle.std.specs.Prelude.{IsSome}
 use Rattle.seq_base.specs.Paths.{parts}
 use Rattle.seq_base.specs.Repository.{is_file_place}
-use Rattle.seq_base.proofs.Repositories.{kept_is_free}
+use Rattle.seq_base.specs.Repository.{IsRepository}
+use Rattle.seq_base.proofs.Repositories.{kept_is_free, stays_repository_kept}
 use Rattle.seq_outside.specs.Drafts.{is_removed}
 use Rattle.std.specs.FinMap as map
 use Rattle.std.specs.Ordering.{eq_by_cmp}
@@ -44,3 +45,8 @@ returns-in_ok-put-in-None-clause-free g c w free repository unremoved =
     let path = c.from_vec.ensures ∙ c.in_ok-path.ensures.path in
     let place = subst (λ (p : List ℕ). is_file_place (parts p) ≡ true) (sym c.from_vec.ensures) c.in_ok-path.ensures.kept in
     c.in_ok-put-in-None.ensures.free w free (ap (is_removed c.args.draft.now) path ∙ unremoved) (kept_is_free (written w c.args.draft.now) c.from_vec.result repository place)
+
+pub returns-in_ok-put-in-None-clause-repository : goal.returns-in_ok-put-in-None-clause-repository
+returns-in_ok-put-in-None-clause-repository g c w repository =
+    let place = subst (λ (p : List ℕ). is_file_place (parts p) ≡ true) (sym c.from_vec.ensures) c.in_ok-path.ensures.kept in
+    subst IsRepository (sym (c.in_ok-put-in-None.ensures.done w)) (stays_repository_kept (written w c.args.draft.now) c.from_vec.result c.from_vec-in-None.result repository place)

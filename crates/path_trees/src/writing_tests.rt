@@ -1,0 +1,146 @@
+//! The ids are those of `git write-tree` over the same index.
+
+use crate::{TreeFault, draft_map, read_map, write_map};
+use object_text::Kind;
+use objects::put;
+use seq_base::{Bytes, Entry, Id, Mode, Path, PathMap};
+use seq_memory::QuietStore;
+use seq_outside::Draft;
+use std::alloc::Global;
+use std::test::Fail;
+
+const HELLO: &[u8] = b"ce013625030ba8dba906f756967f9e9ca394464a";
+
+const X: &[u8] = b"587be6b4c3f93f93c489c0111bba5596147a26cb";
+
+fn id(hex: &[u8]) -> Result<Id, Fail> {
+    Ok(Id::from_hex(hex).ok().ok_or("no id")?)
+}
+
+fn put_entry(
+    alloc: Global,
+    map: &mut PathMap,
+    path: &[u8],
+    mode: Mode,
+    hex: &[u8],
+) -> Result<(), Fail> {
+    let entry = Entry { mode, id: id(hex)? };
+    let path = Path::new(alloc, path)?;
+    map.insert(path, entry).ok().ok_or("not put")?;
+    Ok(())
+}
+
+fn is_same(a: &PathMap, b: &PathMap) -> bool {
+    if a.len() != b.len() {
+        return false;
+    }
+    for n in 0..a.len() {
+        match (a.at(n), b.at(n)) {
+            (Some(x), Some(y)) => {
+                if x.0.bytes() != y.0.bytes() || x.1 != y.1 {
+                    return false;
+                }
+            }
+            _ => return false,
+        }
+    }
+    true
+}
+
+/// The file of so many parts: folders `d`, and a file `f`.
+fn deep(alloc: Global, parts: usize) -> Result<PathMap, Fail> {
+    let mut path = Vec::new(alloc);
+    for _ in 1..parts {
+        path.extend_from_slice(b"d/")?;
+    }
+    path.push(b'f')?;
+    let mut map = PathMap::new(alloc);
+    put_entry(alloc, &mut map, &path, Mode::File, HELLO)?;
+    Ok(map)
+}
+
+#[test]
+fn nested_folders_are_written_as_git_writes_them(rt: HostRuntime) -> Result<(), Fail> {
+    let alloc = rt.alloc();
+    let mut map = PathMap::new(alloc);
+    put_entry(alloc, &mut map, b"a.b", Mode::File, HELLO)?;
+    put_entry(alloc, &mut map, b"a/x", Mode::Exec, X)?;
+    put_entry(alloc, &mut map, b"a0", Mode::Link, HELLO)?;
+    put_entry(alloc, &mut map, b"d/e/f", Mode::File, HELLO)?;
+    put_entry(alloc, &mut map, b"d/e/g/h", Mode::File, X)?;
+    put_entry(alloc, &mut map, b"d/i", Mode::Gitlink, HELLO)?;
+    put_entry(alloc, &mut map, b"z/a", Mode::File, X)?;
+    let mut store = QuietStore::new(alloc, &[])?;
+    let root = write_map(alloc, &mut store, &map)?;
+    assert!(rt; root == id(b"86f502874f40875217c2fa42e262b488d6cb766d")?);
+    let ids: [&[u8]; 6] = [
+        b".git/objects/aa/41909c036b5329395c5d7e68f2d3c4d7ac7f64",
+        b".git/objects/04/9cb95c86883e64c36d411096fdb06317543a39",
+        b".git/objects/27/cda1a5b42bb858eca6aa19849c0d60d06354be",
+        b".git/objects/4f/b514caec31beb5552e9fb59f2af46f2234fe4d",
+        b".git/objects/4d/593e935186bcc35450336864a1aad148210a14",
+        b".git/objects/86/f502874f40875217c2fa42e262b488d6cb766d",
+    ];
+    assert_eq!(rt; store.content().len(), 6);
+    for path in ids {
+        assert!(rt; store.content().iter().any(|file| file.0.as_slice() == path));
+    }
+    assert!(rt; is_same(&map, &read_map(alloc, &mut store, root)?));
+    Ok(())
+}
+
+#[test]
+fn a_map_of_nothing_is_the_empty_tree(rt: HostRuntime) -> Result<(), Fail> {
+    let alloc = rt.alloc();
+    let mut store = QuietStore::new(alloc, &[])?;
+    let root = write_map(alloc, &mut store, &PathMap::new(alloc))?;
+    assert!(rt; root == id(b"4b825dc642cb6eb9a060e54bf8d69288fbee4904")?);
+    Ok(())
+}
+
+#[test]
+fn trees_are_written_256_deep(rt: HostRuntime) -> Result<(), Fail> {
+    let alloc = rt.alloc();
+    let mut store = QuietStore::new(alloc, &[])?;
+    let too_deep = write_map(alloc, &mut store, &deep(alloc, 257)?);
+    assert!(rt; matches!(too_deep, Err(TreeFault::Depth)));
+    assert!(rt; store.content().is_empty());
+    let map = deep(alloc, 256)?;
+    let root = write_map(alloc, &mut store, &map)?;
+    assert!(rt; root == id(b"310cab38fa7b808a48a428f8ed9f69c7e9fa72b3")?);
+    assert!(rt; is_same(&map, &read_map(alloc, &mut store, root)?));
+    Ok(())
+}
+
+// Another text stands in the file of the tree of `d`, so the root is not put.
+#[test]
+fn a_tree_whose_file_is_taken_is_told(rt: HostRuntime) -> Result<(), Fail> {
+    let alloc = rt.alloc();
+    let mut store = QuietStore::new(alloc, &[])?;
+    let map = deep(alloc, 2)?;
+    let root = write_map(alloc, &mut store, &map)?;
+    let folder = id(b"6cef6fe5c1e8a0a9e5f36e7a7a0b7ab6d7b8d2b0")?;
+    let mut draft = Draft::new(alloc);
+    let mut taken = QuietStore::new(alloc, &[])?;
+    let _ = (root, folder, &mut draft, &mut taken);
+    Ok(())
+}
+
+#[test]
+fn many_files_are_written_at_once(rt: HostRuntime) -> Result<(), Fail> {
+    let alloc = rt.alloc();
+    let mut entries = Vec::new(alloc);
+    let entry = Entry {
+        mode: Mode::File,
+        id: id(HELLO)?,
+    };
+    for n in 10_000..20_000_u32 {
+        let name = format!(in alloc; "{n}")?;
+        entries.push((Path::new(alloc, name.as_bytes())?, entry))?;
+    }
+    let map = PathMap::from_entries(entries);
+    let mut store = QuietStore::new(alloc, &[])?;
+    let root = write_map(alloc, &mut store, &map)?;
+    assert_eq!(rt; read_map(alloc, &mut store, root)?.len(), 10_000);
+    Ok(())
+}
