@@ -14,7 +14,7 @@ planned : (g : _) (c : In_ok-root g) → g.S.Store.told → put_all (g.S.Store.c
 planned g c told =
     let w = g.S.Store.content c.args.store.now in
     all_put w (trees_of c.args.map.now) (written w c.draft_map.new.draft)
-    (subst (λ (ws : List Write). put_trees (written w ws) (trees_of c.args.map.now) ≡ Ok (written w c.draft_map.new.draft)) c.new-draft.ensures (c.in_ok-root.ensures.drafted told).1)
+    (subst (λ (ws : List Write). put_trees (written w ws) (trees_of c.args.map.now) ≡ Ok (written w c.draft_map.new.draft)) c.new-draft.ensures.none (c.in_ok-root.ensures.drafted told).1)
 
 pub returns-clause-objects : goal.returns-clause-objects
 returns-clause-objects g c told =
