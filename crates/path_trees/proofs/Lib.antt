@@ -10,3 +10,4 @@ pub mod Cuts
 pub mod TreeOrder
 pub mod Folders
 pub mod PathNames
+pub mod ReadBack

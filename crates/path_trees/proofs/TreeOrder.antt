@@ -121,12 +121,12 @@ apart_inner name (r ∷ rows) apart = (one_inner name r.0 rows apart.0, apart_in
 
 -- ---- the entries of a listing
 
-record HasFirst (rows : Rows) : Type 0 where
-  row : List ℕ × Entry
-  others : Rows
-  rows_are : rows ≡ row ∷ others
+pub record HasFirst (rows : Rows) : Type 0 where
+  pub row : List ℕ × Entry
+  pub others : Rows
+  pub rows_are : rows ≡ row ∷ others
 
-first_row : (listing : Listing) → IsSome listing → IsWhole listing → HasFirst (rows_in listing)
+pub first_row : (listing : Listing) → IsSome listing → IsWhole listing → HasFirst (rows_in listing)
 unfolding rows_in
 first_row NoMore some whole = absurd some
 first_row (OneFile name entry others) some whole = record { row = (name, entry); others = rows_in others; rows_are = refl }
