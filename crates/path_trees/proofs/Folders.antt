@@ -291,7 +291,7 @@ pub way_file : (told : Type 0) (content : World) (skip : ℕ) (rows left after :
 unfolding tree_entries folder_trees
 way_file told content skip rows left after x path entries old now way left_is path_is none =
     let listed : listing_of (cut skip left) ≡ OneFile path x.1 (listing_of (cut skip after)) =
-        ap (λ (rs : Rows). listing_of (cut skip rs)) left_is ∙ (ap (λ (p : List ℕ). listing_of ((p, x.1) ∷ cut skip after)) (sym path_is) ∙ file_listed path x.1 (cut skip after) (no_slash_found path none)) in
+    ap (λ (rs : Rows). listing_of (cut skip rs)) left_is ∙ (ap (λ (p : List ℕ). listing_of ((p, x.1) ∷ cut skip after)) (sym path_is) ∙ file_listed path x.1 (cut skip after) (no_slash_found path none)) in
     record {
       goes = goes_back skip (x ∷ []) after (subst (GoesOnBehind skip) left_is way.goes);
       entries_are = way.entries_are ∙ (ap (λ (l : Listing). entries ++ tree_entries l) listed ∙ sym (append_assoc entries (record { mode = x.1.mode; name = path; id = x.1.id } ∷ []) (tree_entries (listing_of (cut skip after)))));
@@ -344,13 +344,13 @@ unfolding trees_of
 way_fails told content here skip next rows left inside others name entries old now e new then way group t same drafted =
     fails_alike (root_of (cut next inside)) (root_of (cut skip rows)) (put_trees (written here now) (trees_of (cut next inside))) (put_trees (written content old) (trees_of (cut skip rows))) e new then
     (λ fault bad.
-        let put = subst (λ (w : World). put_trees (written w now) (trees_of (cut next inside)) ≡ Err fault) same bad in
-        let folders : put_trees (written content old) (folder_trees (listing_of (cut skip rows))) ≡ Err fault =
-            way.trees_are t
-            ∙ (ap (λ (l : Listing). put_trees (written content now) (folder_trees l)) group.listed
-            ∙ (subtree_first (written content now) (listing_of (cut next inside)) (listing_of (cut skip others)) name
-            ∙ ap (λ (r : Result World PutFault). and_then r (λ w. put_trees w (folder_trees (listing_of (cut skip others))))) put)) in
-        all_trees (written content old) (listing_of (cut skip rows)) ∙ ap (λ (r : Result World PutFault). and_then r (λ w. put_trees w (tree_entries (listing_of (cut skip rows)) ∷ []))) folders)
+    let put = subst (λ (w : World). put_trees (written w now) (trees_of (cut next inside)) ≡ Err fault) same bad in
+    let folders : put_trees (written content old) (folder_trees (listing_of (cut skip rows))) ≡ Err fault =
+    way.trees_are t
+    ∙ (ap (λ (l : Listing). put_trees (written content now) (folder_trees l)) group.listed
+    ∙ (subtree_first (written content now) (listing_of (cut next inside)) (listing_of (cut skip others)) name
+    ∙ ap (λ (r : Result World PutFault). and_then r (λ w. put_trees w (folder_trees (listing_of (cut skip others))))) put)) in
+    all_trees (written content old) (listing_of (cut skip rows)) ∙ ap (λ (r : Result World PutFault). and_then r (λ w. put_trees w (tree_entries (listing_of (cut skip rows)) ∷ []))) folders)
     drafted
 
 -- at the end the folder's own tree comes

@@ -96,8 +96,7 @@ all_found w (OneFolder name its others) whole apart ids stand =
     let inner = map (in_front name) (rows_in its) in
     let its_apart = apart_inner name (rows_in its) (apart_front inner (rows_in others) apart) in
     let its_ids = inner_ids name (rows_in its) (all_front (λ e. length e.1.id ≡ 20) inner (rows_in others) ids) in
-    let both = split_all (Stands w) (folder_trees its) (tree_entries its ∷ folder_trees others) stand in
-    (
+    let both = split_all (Stands w) (folder_trees its) (tree_entries its ∷ folder_trees others) stand in (
       found w (tree_entries its) (tree_ordered its whole.2 its_apart) (have_ids its its_ids) both.1.0,
       all_found w its whole.2 its_apart its_ids both.0,
       all_found w others whole.4 (apart_back inner (rows_in others) apart) (all_back (λ e. length e.1.id ≡ 20) inner (rows_in others) ids) both.1.1,
@@ -221,8 +220,8 @@ reads w (OneFolder name its others) (suc n) folder whole at fits text =
     let inner = map (in_front name) (rows_in its) in
     let its_text = inner_texts folder name (rows_in its) whole.0 (all_front (λ r. IsText (below folder r.0)) inner (rows_in others) text) in
     let first : map_below (suc n) w (below folder name) (tree_id (tree_entries its)) ≡ Ok (map (at_folder folder) inner) =
-        opens n w (below folder name) (tree_id (tree_entries its)) (tree_entries its) at.0 (paths_pass (below folder name) its whole.2 its_text)
-        ∙ (reads w its n (below folder name) whole.2 at.1 fits.0 its_text ∙ ap Ok (inner_rows folder name (rows_in its) whole.0)) in
+    opens n w (below folder name) (tree_id (tree_entries its)) (tree_entries its) at.0 (paths_pass (below folder name) its whole.2 its_text)
+    ∙ (reads w its n (below folder name) whole.2 at.1 fits.0 its_text ∙ ap Ok (inner_rows folder name (rows_in its) whole.0)) in
     let later = reads w others (suc n) folder whole.4 at.2 fits.1 (all_back (λ r. IsText (below folder r.0)) inner (rows_in others) text) in
     ap (λ (r : Result Rows MapFault). r >>= λ rows. entries_map (map_below (suc n) w) folder (tree_entries others) >>= λ more. Ok (rows ++ more)) first
     ∙ (ap (λ (r : Result Rows MapFault). r >>= λ more. Ok (map (at_folder folder) inner ++ more)) later ∙ ap Ok (sym (map-append (at_folder folder) inner (rows_in others))))

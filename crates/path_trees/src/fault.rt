@@ -77,7 +77,7 @@ pub fn put_fault(fault: ObjectFault) -> TreeFault
     ensures { result ≡ put_fault_at fault }
 {
     match fault {
-        ObjectFault::TooLarge { length } => TreeFault::TooLarge { length },
+        ObjectFault::TooLarge { length: count } => TreeFault::TooLarge { length: count },
         ObjectFault::WrongHash { id, .. } => TreeFault::BadObject { id },
         ObjectFault::Collision { id, .. } => TreeFault::BadObject { id },
         ObjectFault::Fault => TreeFault::Fault,

@@ -1,0 +1,21 @@
+//! What the definitions of trees and maps come to in plain words. Each law is the contract of a function that does nothing.
+
+ghost use Rattle.std.specs.List.{AllByRecursion};
+ghost use Rattle.std.specs.Prelude.{◌≡◌, Ok, false, length};
+ghost use Rattle.object_text.specs.TreeMaps.{is_too_deep, map_at, put_trees, root_of, trees_of};
+ghost use Rattle.seq_base.specs.PathMaps.{IsPathMap};
+ghost use Rattle.seq_base.specs.Paths.{IsPath};
+ghost use Rattle.seq_base.specs.World.{World};
+
+use seq_base::{Entry, Path};
+
+/// Where the trees of a map were put, the map of its root is the map.
+#[tactic(auto, using(crate::proofs::ReadBack::written_back))]
+pub fn written_map_reads_back(rows: &[(Path, Entry)])
+    ghost w: { World }
+    requires map { IsPathMap rows.now }
+    requires paths { AllByRecursion (λ e. IsPath e.0) rows.now }
+    requires ids { AllByRecursion (λ e. length e.1.id ≡ 20) rows.now }
+    requires depth { is_too_deep rows.now ≡ false }
+    ensures { (now : World) → put_trees w (trees_of rows.now) ≡ Ok now → map_at now (root_of rows.now) ≡ Ok rows.now }
+{}
