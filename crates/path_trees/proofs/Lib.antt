@@ -11,3 +11,4 @@ pub mod TreeOrder
 pub mod Folders
 pub mod PathNames
 pub mod ReadBack
+pub mod OneRoot

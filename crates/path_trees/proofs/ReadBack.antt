@@ -65,14 +65,14 @@ found w tree order ids stands =
 
 -- ---- the trees of a listing can be read
 
-abbrev HaveRowIds : Rows → Type 0
+abbrev pub HaveRowIds : Rows → Type 0
 HaveRowIds = AllByRecursion (λ e. length e.1.id ≡ 20)
 
-inner_ids : (name : List ℕ) (rows : Rows) → HaveRowIds (map (in_front name) rows) → HaveRowIds rows
+pub inner_ids : (name : List ℕ) (rows : Rows) → HaveRowIds (map (in_front name) rows) → HaveRowIds rows
 inner_ids name [] ids = tt
 inner_ids name (e ∷ es) ids = (ids.0, inner_ids name es ids.1)
 
-have_ids : (listing : Listing) → HaveRowIds (rows_in listing) → HaveIds (tree_entries listing)
+pub have_ids : (listing : Listing) → HaveRowIds (rows_in listing) → HaveIds (tree_entries listing)
 unfolding rows_in tree_entries
 have_ids NoMore ids = tt
 have_ids (OneFile name entry others) ids = (ids.0, have_ids others ids.1)
@@ -84,7 +84,7 @@ AreFound w NoMore = Unit {0}
 AreFound w (OneFile name entry others) = AreFound w others
 AreFound w (OneFolder name its others) = (tree_at w (tree_id (tree_entries its)) ≡ Some (tree_entries its)) × AreFound w its × AreFound w others
 
-split_all : (P : List TreeEntry → Type 0) (xs ys : List (List TreeEntry)) → AllByRecursion P (xs ++ ys) → AllByRecursion P xs × AllByRecursion P ys
+pub split_all : (P : List TreeEntry → Type 0) (xs ys : List (List TreeEntry)) → AllByRecursion P (xs ++ ys) → AllByRecursion P xs × AllByRecursion P ys
 split_all P [] ys all = (tt, all)
 split_all P (x ∷ xs) ys all = let both = split_all P xs ys all.1 in ((all.0, both.0), both.1)
 

@@ -1,6 +1,6 @@
 //! The ids are those of `git write-tree` over the same index.
 
-ghost use Rattle.std.specs.Prelude.{◌≡◌, IfOk};
+ghost use Rattle.std.specs.Prelude.{◌≡◌, ◌≢◌, IfOk};
 
 use crate::{TreeFault, draft_map, read_map, write_map};
 use object_text::Kind;
@@ -25,7 +25,9 @@ fn put_entry(
     path: &[u8],
     mode: Mode,
     hex: &[u8],
-) -> Result<(), Fail> {
+) -> Result<(), Fail>
+    requires { mode ≢ Mode.Folder }
+{
     let entry = Entry { mode, id: id(hex)? };
     let path = Path::new(alloc, path)?;
     map.insert(path, entry).ok().ok_or("not put")?;
@@ -120,6 +122,13 @@ fn copy(alloc: Global, bytes: &[u8]) -> Result<Bytes, AllocError>
     Ok(Bytes::from_vec(Vec::from_slice(alloc, bytes)?))
 }
 
+fn is_bad(answer: &Result<Id, TreeFault>, id: Id) -> bool {
+    match answer {
+        Err(TreeFault::BadObject { id: bad }) => *bad == id,
+        _ => false,
+    }
+}
+
 // Another text stands in the file of the tree of `d`.
 #[test]
 fn a_tree_whose_file_is_taken_is_told(rt: HostRuntime) -> Result<(), Fail> {
@@ -128,12 +137,9 @@ fn a_tree_whose_file_is_taken_is_told(rt: HostRuntime) -> Result<(), Fail> {
     let mut draft = Draft::new(alloc);
     draft.put(copy(alloc, path)?, copy(alloc, b"x")?)?;
     let mut store = QuietStore::new(alloc, &[])?;
-    match draft_map(alloc, &mut draft, &mut store, &deep(alloc, 2)?) {
-        Err(TreeFault::BadObject { id: bad }) => {
-            assert!(rt; bad == id(b"10731d0b170b98481a00bdca161e874e0ab93377")?);
-        }
-        _ => assert!(rt; false),
-    }
+    let answer = draft_map(alloc, &mut draft, &mut store, &deep(alloc, 2)?);
+    let folder = id(b"10731d0b170b98481a00bdca161e874e0ab93377")?;
+    assert!(rt; is_bad(&answer, folder));
     assert_eq!(rt; draft.writes().len(), 1);
     Ok(())
 }
