@@ -1,5 +1,5 @@
 -- A root's id tells the map, where no two trees have one id.
-use Rattle.std.proofs.Common.{◌≡◌, ◌⊎◌, ℕ, ◌<◌, ◌≤◌, ◌^◌, Bool, true, false, List, [], ◌∷◌, ◌++◌, length, map, Result, Ok, Err, inl, inr, refl, sym, ap, subst, ◌∙◌, arith}
+use Rattle.std.proofs.Common.{◌≡◌, ◌⊎◌, ℕ, ◌<◌, ◌≤◌, ◌^◌, Bool, true, false, List, [], ◌∷◌, ◌++◌, length, map, Ok, inl, inr, refl, sym, ap, subst, ◌∙◌, arith}
 use Rattle.std.specs.List.{AllByRecursion, Contains}
 use Rattle.std.specs.Str.{bytes_eq}
 use Rattle.std.proofs.lemmas.List.Elements.{Contains-append_left, Contains-append_right}
@@ -15,15 +15,15 @@ use Rattle.object_text.specs.ReadObjects.{object_from}
 use Rattle.object_text.specs.ReadTrees.{tree_from}
 use Rattle.object_text.specs.Store.{content_limit}
 use Rattle.object_text.specs.TreeMaps.{Listing, NoMore, OneFile, OneFolder, folder_trees, is_folder, listing_of, root_of, tree_entries, tree_id, tree_object, trees_of}
-use Rattle.object_text.specs.Trees.{HaveIds, IsTree, IsTreeOrder, tree_text}
+use Rattle.object_text.specs.Trees.{HaveIds, IsTreeOrder, tree_text}
 use Rattle.object_text.proofs.Entries.{tree_reads}
 use Rattle.object_text.proofs.ObjectLaws.{object_reads, object_written}
 use Rattle.path_trees.specs.Collisions.{HaveOneId}
 use Rattle.path_trees.specs.Rows.{Rows}
-use Rattle.path_trees.proofs.Folders.{are_files}
+use Rattle.path_trees.proofs.Folders.{HaveRowIds, are_files}
 use Rattle.path_trees.proofs.Listings.{IsWhole, in_front, listing_whole, rows_in, rows_listed}
 use Rattle.path_trees.proofs.PathNames.{all_names}
-use Rattle.path_trees.proofs.ReadBack.{HaveRowIds, have_ids, inner_ids, split_all}
+use Rattle.path_trees.proofs.ReadBack.{have_ids, inner_ids, split_all}
 use Rattle.path_trees.proofs.TreeOrder.{AllApart, all_back, all_front, apart_back, apart_front, apart_inner, map_apart, tree_ordered}
 
 -- the tree is no larger than an object may be

@@ -1,35 +1,37 @@
 -- The map of trees that were put is the map whose trees they are.
-use Rattle.std.proofs.Common.{◌≡◌, ℕ, zero, suc, ◌+◌, ◌-◌, ◌<◌, ◌≤◌, ◌==◌, ◌&&◌, Bool, true, false, cond, not, nat_le, nat_lt, ◌||◌, List, [], ◌∷◌, ◌++◌, length, map, take, get_or, Option, Some, None, Result, Ok, Err, refl, sym, ap, subst, ◌∙◌, append_assoc, arith, length-append, eq-eqb}
+use Rattle.std.proofs.Common.{◌≡◌, ℕ, zero, suc, ◌<◌, ◌≤◌, ◌==◌, Bool, true, false, cond, nat_le, nat_lt, ◌||◌, List, [], ◌∷◌, ◌++◌, length, map, get_or, Some, Result, Ok, Err, refl, sym, ap, subst, ◌∙◌, append_assoc, arith, length-append, eq-eqb}
 use Rattle.std.specs.FinMap as held
 use Rattle.std.specs.List.{AllByRecursion, list_all, list_any}
+use Rattle.std.specs.Result.{IfOk, OnOk}
 use Rattle.std.specs.Str.{IsUtf8}
 use Rattle.std.specs.Str.Lossy.{utf8_valid_len}
-use Rattle.std.proofs.lemmas.Bool.{and_from, and_parts}
+use Rattle.std.proofs.lemmas.Bool.{and_from}
 use Rattle.std.proofs.lemmas.Bool.Decides.{nat_tests}
-use Rattle.std.proofs.lemmas.List.{append-nil, map-append}
+use Rattle.std.proofs.lemmas.List.{map-append}
 use Rattle.std.proofs.lemmas.Str.{IsCharBoundary-before_ascii, IsUtf8-take, utf8_valid_len-IsUtf8}
 use Rattle.std.proofs.Math.Seq.{get_or-append_seam, take-append_seam}
 use Rattle.seq_base.specs.Paths.{IsPath, parts}
 use Rattle.seq_base.specs.PathMaps.{IsPathMap}
 use Rattle.seq_base.specs.World.{World}
+use Rattle.seq_base.specs.declared.id.Id.{Id}
 use Rattle.seq_base.specs.declared.map.Entry.{Entry}
 use Rattle.seq_base.proofs.Places.{some_part}
-use Rattle.object_text.specs.declared.object.Object.{Object}
 use Rattle.object_text.specs.declared.tree.TreeEntry.{TreeEntry}
 use Rattle.object_text.specs.Objects.{object_text}
-use Rattle.object_text.specs.Store.{content_limit, entries_if_tree, object_at, object_id, object_path, put_object, tree_at}
-use Rattle.object_text.specs.TreeMaps.{Listing, NoMore, OneFile, OneFolder, MapFault, BadTree, ◌>>=◌, below, entries_map, folder_trees, is_folder, is_path_text, is_too_deep, listing_of, map_at, map_below, opened, put_trees, root_of, tree_entries, tree_id, tree_object, trees_of}
-use Rattle.object_text.specs.Trees.{HaveIds, IsTree, IsTreeOrder, is_name, tree_text}
+use Rattle.object_text.specs.Store.{content_limit, object_path, tree_at}
+use Rattle.object_text.specs.TreeMaps.{Listing, NoMore, OneFile, OneFolder, MapFault, BadTree, ◌>>=◌, below, entries_map, folder_trees, is_path_text, is_too_deep, listing_of, map_at, map_below, opened, put_trees, root_of, tree_entries, tree_id, tree_object, trees_of}
+use Rattle.object_text.specs.Trees.{HaveIds, IsTreeOrder, is_name, tree_text}
 use Rattle.object_text.proofs.Lengths.{length-id}
 use Rattle.objects.proofs.Writing.{file_stays, free_file, object_of_file}
+use Rattle.path_trees.specs.Drafts.{IsDraftedAs}
 use Rattle.path_trees.specs.Rows.{Rows}
-use Rattle.path_trees.proofs.Depth.{at_some}
-use Rattle.path_trees.proofs.Folders.{are_files}
-use Rattle.path_trees.proofs.Listings.{IsSome, IsWhole, in_front, listing_whole, parts_in_front, rows_in, rows_listed}
+use Rattle.path_trees.specs.declared.fault.TreeFault.{TreeFault}
+use Rattle.path_trees.proofs.Folders.{HaveRowIds, are_files}
+use Rattle.path_trees.proofs.Listings.{IsWhole, in_front, listing_whole, parts_in_front, rows_in, rows_listed}
 use Rattle.path_trees.proofs.Order.{name_no_slash}
 use Rattle.path_trees.proofs.PathNames.{all_names}
 use Rattle.path_trees.proofs.Paths.{some_below}
-use Rattle.path_trees.proofs.Puts.{WasPut, was_put, were_put}
+use Rattle.path_trees.proofs.Puts.{was_put, were_put}
 use Rattle.path_trees.proofs.TreeOrder.{AllApart, all_back, all_front, apart_back, apart_front, apart_inner, first_row, map_apart, tree_ordered}
 use Rattle.path_trees.proofs.Trees.{tree_spelled}
 
@@ -64,9 +66,6 @@ found w tree order ids stands =
     rw object (tree_spelled tree (tree_text tree) (record { order = order; ids = ids; text_is = refl }))
 
 -- ---- the trees of a listing can be read
-
-abbrev pub HaveRowIds : Rows → Type 0
-HaveRowIds = AllByRecursion (λ e. length e.1.id ≡ 20)
 
 pub inner_ids : (name : List ℕ) (rows : Rows) → HaveRowIds (map (in_front name) rows) → HaveRowIds rows
 inner_ids name [] ids = tt
@@ -258,3 +257,8 @@ written_back w now rows is paths ids low put =
     opens 255 now [] (tree_id (tree_entries listing)) (tree_entries listing) root (paths_pass [] listing whole text)
     ∙ (reads now listing 255 [] whole (all_found now listing whole apart listed_ids stand.0) (fits listing 255 whole (subst (HaveDepth 256) (sym same) (all_depth rows low))) text
     ∙ ap Ok (ap (map (at_folder [])) same ∙ at_root rows))
+
+pub drafted_back : (w now : World) (rows : Rows) (r : Result Id TreeFault) → IsPathMap rows → AllByRecursion (λ e. IsPath e.0) rows → OnOk r (HaveRowIds rows) → is_too_deep rows ≡ false → IsDraftedAs (root_of rows) (put_trees w (trees_of rows)) r now
+    → IfOk r (λ root. map_at now root ≡ Ok rows)
+drafted_back w now rows (Ok id) is paths ids low drafted = ap (map_at now) drafted.0 ∙ written_back w now rows is paths ids low drafted.1
+drafted_back w now rows (Err e) is paths ids low drafted = tt
