@@ -7,3 +7,4 @@ pub mod CommitLaws
 pub mod CommitLoops
 pub mod CommitValues
 pub mod ObjectLaws
+pub mod Lengths

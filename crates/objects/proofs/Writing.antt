@@ -13,7 +13,7 @@ use Rattle.seq_base.specs.Paths.{parts}
 use Rattle.seq_base.specs.Repository.{IsRepository, is_file_place}
 use Rattle.seq_base.specs.World.{World, is_blocked, path_cmp}
 use Rattle.seq_base.proofs.Repositories.{kept_is_free, stays_repository_kept}
-use Rattle.seq_base.proofs.Shape.{equal_to_itself}
+use Rattle.seq_base.proofs.Shape.{equal_to_itself, same_path}
 use Rattle.object_text.specs.declared.object.Object.{Object}
 use Rattle.object_text.specs.Objects.{header_text, kind_text, object_text}
 use Rattle.object_text.specs.Store.{Put, content_limit, object_at, object_id, object_path, put_at, put_object}
@@ -93,11 +93,44 @@ put_failed w o now store.Memory absent leaves = leaves
 
 -- ---- what follows of it
 
-pub put_object_at : (w : World) (o : Object) (id : List ℕ) (now : World) → IsPut w o id now → object_at now id ≡ Some o
+-- an object whose text stands in its file is there
+pub object_of_file : (w : World) (o : Object) → length o.bytes ≤ content_limit → map.get w (object_path (object_id o)) ≡ Some (object_text o) → object_at w (object_id o) ≡ Some o
 unfolding object_at
-put_object_at w o id now is =
-    let fits : length o.bytes < 2 ^ 64 = let low = is.within in omega arith in
-    rw is.file (object_read id (object_text o) o (record { spelled = object_written o (object_text o) fits refl; within = is.within; hash = sym is.id_is }))
+object_of_file w o within file =
+    let fits : length o.bytes < 2 ^ 64 = omega arith in
+    rw file (object_read (object_id o) (object_text o) o (record { spelled = object_written o (object_text o) fits refl; within = within; hash = refl }))
+
+pub put_object_at : (w : World) (o : Object) (id : List ℕ) (now : World) → IsPut w o id now → object_at now id ≡ Some o
+put_object_at w o id now is = ap (object_at now) is.id_is ∙ object_of_file now o is.within (ap (λ (i : List ℕ). map.get now (object_path i)) (sym is.id_is) ∙ is.file)
+
+-- where no other text stands in its file, the object's does then
+pub free_file : (w : World) (o : Object) → (put_object w o).collision ≡ None → map.get (put_object w o).world (object_path (object_id o)) ≡ Some (object_text o)
+free_file w o free = at (map.get w (object_path (object_id o))) refl
+  where
+    same : (kept : List ℕ) (t : Bool) → bytes_eq kept (object_text o) ≡ t → cond t None (Some (object_id o)) ≡ None → kept ≡ object_text o
+    same kept true is none = (bytes_eq-Decides kept (object_text o)).0 is
+    same kept false is none = absurd cc
+
+    at : (file : Option (List ℕ)) → map.get w (object_path (object_id o)) ≡ file → map.get (put_object w o).world (object_path (object_id o)) ≡ Some (object_text o)
+    at None is = insert_there w (object_path (object_id o)) (object_text o) (put_object w o).world (ap (λ (p : Put). p.world) (put_is w o None is))
+    at (Some kept) is =
+        let put = put_is w o (Some kept) is in
+        let none = sym (ap (λ (p : Put). p.collision) put) ∙ free in
+        ap (λ (p : Put). map.get p.world (object_path (object_id o))) put ∙ (is ∙ ap Some (same kept (bytes_eq kept (object_text o)) refl none))
+
+-- a put changes no file that stands
+pub file_stays : (w : World) (o : Object) (path text : List ℕ) → map.get w path ≡ Some text → map.get (put_object w o).world path ≡ Some text
+file_stays w o path text stands = at (map.get w (object_path (object_id o))) refl
+  where
+    other : (t : Bool) → eq_by_cmp path_cmp path (object_path (object_id o)) ≡ t → map.get w (object_path (object_id o)) ≡ None → cond t (Some (object_text o)) (map.get w path) ≡ Some text
+    other true same none = let here = ap (map.get w) (same_path path (object_path (object_id o)) same) in absurd cc
+    other false apart none = stands
+
+    at : (file : Option (List ℕ)) → map.get w (object_path (object_id o)) ≡ file → map.get (put_object w o).world path ≡ Some text
+    at None is =
+        ap (λ (p : Put). map.get p.world path) (put_is w o None is)
+        ∙ (map.get-insert nat_list_cmp_total w (object_path (object_id o)) (object_text o) path ∙ other (eq_by_cmp path_cmp path (object_path (object_id o))) refl is)
+    at (Some kept) is = ap (λ (p : Put). map.get p.world path) (put_is w o (Some kept) is) ∙ stands
 
 put_world : (w : World) (o : Object) → ((put_object w o).world ≡ w) ⊎ ((put_object w o).world ≡ map.insert w (object_path (object_id o)) (object_text o))
 put_world w o = at (map.get w (object_path (object_id o))) refl

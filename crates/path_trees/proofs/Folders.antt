@@ -1,8 +1,8 @@
 -- The rows of a folder, one file or one subfolder after another.
-use Rattle.std.proofs.Common.{◌≡◌, ℕ, suc, ◌+◌, ◌-◌, ◌<◌, ◌≤◌, ◌==◌, Bool, true, false, cond, ◌&&◌, not, List, [], ◌∷◌, ◌++◌, length, map, take, drop, get_or, nat_lt, Option, Some, None, Result, Ok, Err, refl, sym, ap, subst, ◌∙◌, arith, append_assoc, length-append, eqb-true}
-use Rattle.std.specs.List.{AllByRecursion, list_all, position, position_or_len, prefix_len, starts_with}
-use Rattle.std.specs.Result.{IfOk}
-use Rattle.std.proofs.lemmas.Bool.{and_from, and_parts, false_from_ne_true, not-true}
+use Rattle.std.proofs.Common.{◌≡◌, ℕ, suc, ◌+◌, ◌-◌, ◌<◌, ◌≤◌, ◌==◌, Bool, true, false, cond, ◌&&◌, not, List, [], ◌∷◌, ◌++◌, length, map, take, drop, get_or, nat_lt, Some, None, Result, Ok, Err, refl, sym, ap, subst, ◌∙◌, arith, append_assoc, length-append, eqb-true}
+use Rattle.std.specs.List.{AllByRecursion, list_all, position, position_or_len, prefix_len}
+use Rattle.std.specs.Result.{IfOk, OnOk}
+use Rattle.std.proofs.lemmas.Bool.{and_from, and_parts, not-true}
 use Rattle.std.proofs.lemmas.Bool.Decides.{Decides-eqb, nat_tests}
 use Rattle.std.proofs.lemmas.List.{append-nil, drop-drop, drop-map, length-drop, length-take-le, length-map, map-append, take-append-drop, take-map, take_all, take_rest}
 use Rattle.std.proofs.Math.Seq.{take-append_seam}
@@ -20,14 +20,14 @@ use Rattle.seq_base.specs.declared.mode.Mode.TheVariants.{File, Exec, Link, Gitl
 use Rattle.seq_outside.specs.Writes.{written}
 use Rattle.seq_outside.specs.declared.write.Write.{Write}
 use Rattle.object_text.specs.declared.tree.TreeEntry.{TreeEntry}
-use Rattle.object_text.specs.TreeMaps.{Listing, NoMore, OneFile, OneFolder, PutFault, and_then, folder_trees, is_folder, listing_of, put_tree, put_trees, root_of, tree_entries, tree_id, trees_of}
-use Rattle.object_text.specs.Trees.{IsTreeOrder, is_name}
+use Rattle.object_text.specs.TreeMaps.{Listing, OneFile, OneFolder, PutFault, and_then, folder_trees, is_folder, listing_of, put_tree, put_trees, root_of, tree_entries, tree_id, trees_of}
+use Rattle.object_text.specs.Trees.{HaveIds, IsTreeOrder, is_name}
 use Rattle.path_trees.specs.Drafts.{AddsObjects, GoesOnBehind, IsDraftedAs, count_inside, cut, is_inside}
 use Rattle.path_trees.specs.Rows.{Rows}
 use Rattle.path_trees.specs.declared.fault.TreeFault.{TreeFault}
 use Rattle.path_trees.specs.declared.fault.TreeFault.TheVariants.{BadObject, TooLarge, Depth, Fault, Memory}
 use Rattle.path_trees.proofs.Added.{adds_more, adds_none}
-use Rattle.path_trees.proofs.Listings.{AreFiles, HaveNames, IsOther, file_listed, folder_listed, in_front, listing_whole, other_listed, parts_in_front, rows_in, rows_listed}
+use Rattle.path_trees.proofs.Listings.{AreFiles, HaveNames, IsOther, file_listed, folder_listed, in_front, listing_whole, other_listed, parts_in_front, rows_listed}
 use Rattle.path_trees.proofs.Order.{has_no_slash}
 use Rattle.path_trees.proofs.Puts.{put_trees-append, put_trees-none, put_trees-one}
 use Rattle.path_trees.proofs.TreeOrder.{AllApart, all_back, all_front, apart_back, apart_front, apart_inner, apart_map, map_apart, tree_ordered}
@@ -184,6 +184,7 @@ pub record HasGroup (name : List ℕ) (skip next : ℕ) (rest inside others : Ro
   pub inner : GoesOnBehind next inside
   pub outer : GoesOnBehind skip others
   pub fewer : length others < length rest
+  pub whole : rest ≡ inside ++ others
 
 some_listed : (name : List ℕ) (rows others : Rows) → 0 < length rows → has_no_slash name ≡ true → IsOther name (listing_of others) → listing_of (map (in_front name) rows ++ others) ≡ OneFolder name (listing_of rows) (listing_of others)
 some_listed name [] others some none other = absurd (omega arith)
@@ -261,6 +262,7 @@ module _ (skip at next : ℕ) (path : List ℕ) (rest after : Rows) (x : List �
             let whole = ap (length {A = List ℕ × Entry}) split ∙ length-append (take many rest) (drop many rest) in
             let one : length (cut next (take many rest)) ≡ length (take many rest) = length-map (take many rest) (λ (e : List ℕ × Entry). (drop next e.0, e.1)) in
             omega (arith, whole, one, some);
+        whole = split;
       }
 
 pub group_at : (skip at next n : ℕ) (path folder : List ℕ) (rest after inside others : Rows) (x : List ℕ × Entry) → rest ≡ x ∷ after → path ≡ drop skip x.0 → position (λ b. b == 47) path ≡ Some at → next ≡ skip + at + 1 → GoesOnBehind skip rest
@@ -273,6 +275,20 @@ group_at skip at next n path folder rest after inside others x rest_is path_is f
     (subst (λ (rows : Rows). HasGroup (take at path) skip next rest (take n rest) rows) (sym others_is)
     (subst (λ (k : ℕ). HasGroup (take at path) skip next rest (take k rest) (drop k rest)) (sym long) group))
 
+-- ---- ids
+
+-- each id has twenty bytes
+abbrev pub HaveRowIds : Rows → Type 0
+HaveRowIds = AllByRecursion (λ e. length e.1.id ≡ 20)
+
+split_ids : (es later : List TreeEntry) → HaveIds (es ++ later) → HaveIds es × HaveIds later
+split_ids [] later all = (tt, all)
+split_ids (e ∷ es) later all = let both = split_ids es later all.1 in ((all.0, both.0), both.1)
+
+join_ids : (rows later : Rows) → HaveRowIds rows → HaveRowIds later → HaveRowIds (rows ++ later)
+join_ids [] later own more = more
+join_ids (e ∷ es) later own more = (own.0, join_ids es later own.1 more)
+
 -- ---- what was drafted so far
 
 -- the entries so far and those of the rows left are the folder's; the trees so far are in the draft, and then come those of the rows left
@@ -281,9 +297,10 @@ pub record IsWay (told : Type 0) (content : World) (skip : ℕ) (rows left : Row
   pub entries_are : tree_entries (listing_of (cut skip rows)) ≡ entries ++ tree_entries (listing_of (cut skip left))
   pub trees_are : told → put_trees (written content old) (folder_trees (listing_of (cut skip rows))) ≡ put_trees (written content now) (folder_trees (listing_of (cut skip left)))
   pub adds : AddsObjects old now
+  pub ids : HaveIds entries → HaveRowIds left → HaveRowIds rows
 
 pub way_starts : (told : Type 0) (content : World) (skip : ℕ) (rows : Rows) (writes : List Write) → GoesOnBehind skip rows → IsWay told content skip rows rows [] writes writes
-way_starts told content skip rows writes goes = record { goes = goes; entries_are = refl; trees_are = λ t. refl; adds = adds_none writes }
+way_starts told content skip rows writes goes = record { goes = goes; entries_are = refl; trees_are = λ t. refl; adds = adds_none writes; ids = λ own all. all }
 
 pub way_file : (told : Type 0) (content : World) (skip : ℕ) (rows left after : Rows) (x : List ℕ × Entry) (path : List ℕ) (entries : List TreeEntry) (old now : List Write)
     → IsWay told content skip rows left entries old now → left ≡ x ∷ after → path ≡ drop skip x.0 → position (λ b. b == 47) path ≡ None
@@ -291,12 +308,15 @@ pub way_file : (told : Type 0) (content : World) (skip : ℕ) (rows left after :
 unfolding tree_entries folder_trees
 way_file told content skip rows left after x path entries old now way left_is path_is none =
     let listed : listing_of (cut skip left) ≡ OneFile path x.1 (listing_of (cut skip after)) =
-        ap (λ (rs : Rows). listing_of (cut skip rs)) left_is ∙ (ap (λ (p : List ℕ). listing_of ((p, x.1) ∷ cut skip after)) (sym path_is) ∙ file_listed path x.1 (cut skip after) (no_slash_found path none)) in
+    ap (λ (rs : Rows). listing_of (cut skip rs)) left_is ∙ (ap (λ (p : List ℕ). listing_of ((p, x.1) ∷ cut skip after)) (sym path_is) ∙ file_listed path x.1 (cut skip after) (no_slash_found path none)) in
     record {
       goes = goes_back skip (x ∷ []) after (subst (GoesOnBehind skip) left_is way.goes);
       entries_are = way.entries_are ∙ (ap (λ (l : Listing). entries ++ tree_entries l) listed ∙ sym (append_assoc entries (record { mode = x.1.mode; name = path; id = x.1.id } ∷ []) (tree_entries (listing_of (cut skip after)))));
       trees_are = λ t. way.trees_are t ∙ ap (λ (l : Listing). put_trees (written content now) (folder_trees l)) listed;
       adds = way.adds;
+      ids = λ own all.
+          let both = split_ids entries (record { mode = x.1.mode; name = path; id = x.1.id } ∷ []) own in
+          way.ids both.0 (subst HaveRowIds (sym left_is) (both.1.0, all));
     }
 
 -- the subtree's trees come first
@@ -305,11 +325,11 @@ unfolding folder_trees
 subtree_first w its others folder = ap (put_trees w) (sym (append_assoc (folder_trees its) (tree_entries its ∷ []) (folder_trees others))) ∙ put_trees-append w (folder_trees its ++ tree_entries its ∷ []) (folder_trees others)
 
 pub way_folder : (told : Type 0) (content here : World) (skip next : ℕ) (rows left inside others : Rows) (name id : List ℕ) (entries : List TreeEntry) (old now new : List Write)
-    → IsWay told content skip rows left entries old now → HasGroup name skip next left inside others → (told → here ≡ content) → id ≡ root_of (cut next inside) → AddsObjects now new
+    → IsWay told content skip rows left entries old now → HasGroup name skip next left inside others → (told → here ≡ content) → id ≡ root_of (cut next inside) → AddsObjects now new → HaveRowIds inside
     → (told → IsDraftedAs (root_of (cut next inside)) (put_trees (written here now) (trees_of (cut next inside))) (Ok id) (written here new))
     → IsWay told content skip rows others (entries ++ record { mode = Folder; name = name; id = id } ∷ []) old new
 unfolding tree_entries root_of trees_of
-way_folder told content here skip next rows left inside others name id entries old now new way group same root adds drafted = record {
+way_folder told content here skip next rows left inside others name id entries old now new way group same root adds inner_ids drafted = record {
   goes = group.outer;
   entries_are =
       way.entries_are
@@ -323,6 +343,7 @@ way_folder told content here skip next rows left inside others name id entries o
       ∙ (subtree_first (written content now) (listing_of (cut next inside)) (listing_of (cut skip others)) name
       ∙ ap (λ (r : Result World PutFault). and_then r (λ w. put_trees w (folder_trees (listing_of (cut skip others))))) put));
   adds = adds_more old now new way.adds adds;
+  ids = λ own all. way.ids (split_ids entries (record { mode = Folder; name = name; id = id } ∷ []) own).0 (subst HaveRowIds (sym group.whole) (join_ids inside others inner_ids all));
 }
 
 -- what is answered of other trees is answered of these, where they fail alike
@@ -344,13 +365,13 @@ unfolding trees_of
 way_fails told content here skip next rows left inside others name entries old now e new then way group t same drafted =
     fails_alike (root_of (cut next inside)) (root_of (cut skip rows)) (put_trees (written here now) (trees_of (cut next inside))) (put_trees (written content old) (trees_of (cut skip rows))) e new then
     (λ fault bad.
-        let put = subst (λ (w : World). put_trees (written w now) (trees_of (cut next inside)) ≡ Err fault) same bad in
-        let folders : put_trees (written content old) (folder_trees (listing_of (cut skip rows))) ≡ Err fault =
-            way.trees_are t
-            ∙ (ap (λ (l : Listing). put_trees (written content now) (folder_trees l)) group.listed
-            ∙ (subtree_first (written content now) (listing_of (cut next inside)) (listing_of (cut skip others)) name
-            ∙ ap (λ (r : Result World PutFault). and_then r (λ w. put_trees w (folder_trees (listing_of (cut skip others))))) put)) in
-        all_trees (written content old) (listing_of (cut skip rows)) ∙ ap (λ (r : Result World PutFault). and_then r (λ w. put_trees w (tree_entries (listing_of (cut skip rows)) ∷ []))) folders)
+    let put = subst (λ (w : World). put_trees (written w now) (trees_of (cut next inside)) ≡ Err fault) same bad in
+    let folders : put_trees (written content old) (folder_trees (listing_of (cut skip rows))) ≡ Err fault =
+    way.trees_are t
+    ∙ (ap (λ (l : Listing). put_trees (written content now) (folder_trees l)) group.listed
+    ∙ (subtree_first (written content now) (listing_of (cut next inside)) (listing_of (cut skip others)) name
+    ∙ ap (λ (r : Result World PutFault). and_then r (λ w. put_trees w (folder_trees (listing_of (cut skip others))))) put)) in
+    all_trees (written content old) (listing_of (cut skip rows)) ∙ ap (λ (r : Result World PutFault). and_then r (λ w. put_trees w (tree_entries (listing_of (cut skip rows)) ∷ []))) folders)
     drafted
 
 -- at the end the folder's own tree comes
@@ -398,3 +419,7 @@ falls bytes skip at path slash =
     let short = path.short in
     let within = slash.within in
     omega (arith, size, short, within)
+
+pub way_ids : (told : Type 0) (content : World) (skip : ℕ) (rows : Rows) (entries : List TreeEntry) (old now : List Write) (r : Result Id TreeFault) → IsWay told content skip rows [] entries old now → OnOk r (HaveIds entries) → OnOk r (HaveRowIds rows)
+way_ids told content skip rows entries old now (Ok id) way ids = way.ids ids tt
+way_ids told content skip rows entries old now (Err e) way ids = tt

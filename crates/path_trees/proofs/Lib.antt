@@ -10,3 +10,5 @@ pub mod Cuts
 pub mod TreeOrder
 pub mod Folders
 pub mod PathNames
+pub mod ReadBack
+pub mod OneRoot

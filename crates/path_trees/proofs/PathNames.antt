@@ -1,10 +1,9 @@
 -- The parts of paths are names.
-use Rattle.std.proofs.Common.{◌≡◌, ℕ, ◌+◌, ◌≤◌, ◌==◌, Bool, true, false, cond, ◌&&◌, ◌||◌, not, nat_lt, List, [], ◌∷◌, length, map, drop, Some, None, refl, sym, ap, subst, ◌∙◌, arith}
+use Rattle.std.proofs.Common.{◌≡◌, ℕ, ◌+◌, ◌≤◌, ◌==◌, Bool, true, false, cond, ◌&&◌, ◌||◌, not, nat_lt, List, [], ◌∷◌, length, Some, None, refl, sym, ap, subst, arith}
 use Rattle.std.specs.List.{AllByRecursion, list_all, onto_first}
 use Rattle.std.proofs.lemmas.Bool.{and_from, and_parts}
 use Rattle.seq_base.specs.Paths.{IsPath, first_bad, is_part, is_special, parts}
 use Rattle.seq_base.specs.PathMaps.{IsPathMap}
-use Rattle.seq_base.specs.declared.map.Entry.{Entry}
 use Rattle.seq_base.proofs.CharFronts.{text_fits}
 use Rattle.object_text.specs.Trees.{is_name, is_name_byte}
 use Rattle.path_trees.specs.Drafts.{GoesOnBehind, cut}

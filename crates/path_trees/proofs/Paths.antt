@@ -67,7 +67,7 @@ good_below (c ∷ folder) name (inr path) h =
     ap parts (append_assoc (c ∷ folder) (47 ∷ []) name) ∙ (parts-behind (c ∷ folder) name ∙ ap (λ (ps : List (List ℕ)). parts (c ∷ folder) ++ ps) (one_part name h)) in
     ap (first_bad 0) split ∙ good_more 0 (parts (c ∷ folder)) name h path.parts_are
 
-some_below : (folder name : List ℕ) → is_name name ≡ true → 0 < length (below folder name)
+pub some_below : (folder name : List ℕ) → is_name name ≡ true → 0 < length (below folder name)
 some_below [] name h = name_is_some name h
 some_below (c ∷ folder) name h = omega (arith, length-append (folder ++ 47 ∷ []) name)
 

@@ -1,10 +1,8 @@
 -- Putting one tree, and putting trees one after another.
-use Rattle.std.proofs.Common.{◌≡◌, ◌⊎◌, ℕ, ◌<◌, ◌≤◌, Bool, true, false, cond, nat_lt, List, [], ◌∷◌, ◌++◌, length, map, Option, Some, None, Result, Ok, Err, refl, sym, ap, subst, ◌∙◌, arith}
+use Rattle.std.proofs.Common.{◌≡◌, ℕ, ◌<◌, ◌≤◌, Bool, true, false, cond, nat_lt, List, [], ◌∷◌, ◌++◌, length, map, Option, Some, None, Result, Ok, Err, refl, sym, ap, ◌∙◌, arith}
 use Rattle.std.proofs.lemmas.Bool.Decides.{nat_tests}
 use Rattle.seq_base.specs.World.{World}
 use Rattle.seq_base.specs.declared.id.Id.{Id}
-use Rattle.object_text.specs.declared.object.Kind.TheVariants.{Tree}
-use Rattle.object_text.specs.declared.object.Object.{Object}
 use Rattle.object_text.specs.declared.tree.TreeEntry.{TreeEntry}
 use Rattle.object_text.specs.Store.{Put, content_limit, or_ended, put_all, put_object}
 use Rattle.object_text.specs.TreeMaps.{PutFault, IsLarge, IsTaken, and_then, put_tree, put_trees, tree_id, tree_object, unless_taken}
@@ -14,8 +12,6 @@ use Rattle.objects.specs.declared.fault.ObjectFault.{ObjectFault}
 use Rattle.objects.specs.declared.fault.ObjectFault.TheVariants as objects
 use Rattle.path_trees.specs.Drafts.{IsDraftedAs}
 use Rattle.path_trees.specs.Faults.{put_fault_at}
-use Rattle.path_trees.specs.declared.fault.TreeFault.{TreeFault}
-use Rattle.path_trees.specs.declared.fault.TreeFault.TheVariants.{BadObject, TooLarge, Depth, Fault, Memory}
 
 -- ---- one tree
 

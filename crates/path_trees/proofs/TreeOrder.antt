@@ -1,7 +1,7 @@
 -- The entries of a map's trees are in order.
-use Rattle.std.proofs.Common.{◌≡◌, ℕ, ◌==◌, Bool, true, false, ◌&&◌, not, List, [], ◌∷◌, ◌++◌, map, refl, sym, ap, subst, ◌∙◌, Ordering, append_assoc, eqb-true}
+use Rattle.std.proofs.Common.{◌≡◌, ℕ, ◌==◌, Bool, true, false, ◌&&◌, not, List, [], ◌∷◌, ◌++◌, map, refl, sym, ap, subst, ◌∙◌, eqb-true}
 use Rattle.std.specs.Cmp.Lexicographic.{slice_cmp}
-use Rattle.std.specs.List.{AllByRecursion, list_all}
+use Rattle.std.specs.List.{AllByRecursion}
 use Rattle.std.specs.Ordering.{nat_cmp}
 use Rattle.std.specs.Str.{bytes_eq}
 use Rattle.std.proofs.lemmas.Bool.{and_parts}
@@ -10,7 +10,7 @@ use Rattle.std.proofs.lemmas.Slice.Eq.{bytes_eq-Decides}
 use Rattle.seq_base.specs.PathMaps.{AreApart, HoldsFiles, IsAscending, IsPathMap, clashes, is_less}
 use Rattle.seq_base.specs.declared.map.Entry.{Entry}
 use Rattle.seq_base.specs.declared.mode.Mode.{Mode}
-use Rattle.seq_base.specs.declared.mode.Mode.TheVariants.{File, Exec, Link, Gitlink, Folder}
+use Rattle.seq_base.specs.declared.mode.Mode.TheVariants.{Folder}
 use Rattle.seq_base.proofs.Maps.{less_antisymmetric}
 use Rattle.object_text.specs.declared.tree.TreeEntry.{TreeEntry}
 use Rattle.object_text.specs.TreeMaps.{Listing, NoMore, OneFile, OneFolder, is_folder, tree_entries, tree_id}
@@ -121,12 +121,12 @@ apart_inner name (r ∷ rows) apart = (one_inner name r.0 rows apart.0, apart_in
 
 -- ---- the entries of a listing
 
-record HasFirst (rows : Rows) : Type 0 where
-  row : List ℕ × Entry
-  others : Rows
-  rows_are : rows ≡ row ∷ others
+pub record HasFirst (rows : Rows) : Type 0 where
+  pub row : List ℕ × Entry
+  pub others : Rows
+  pub rows_are : rows ≡ row ∷ others
 
-first_row : (listing : Listing) → IsSome listing → IsWhole listing → HasFirst (rows_in listing)
+pub first_row : (listing : Listing) → IsSome listing → IsWhole listing → HasFirst (rows_in listing)
 unfolding rows_in
 first_row NoMore some whole = absurd some
 first_row (OneFile name entry others) some whole = record { row = (name, entry); others = rows_in others; rows_are = refl }

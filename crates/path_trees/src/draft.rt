@@ -1,9 +1,9 @@
 //! Drafting the trees of a map.
 
-ghost use Rattle.std.specs.Prelude.{◌≡◌, ◌==◌, ◌↔◌, ◌≤◌, ◌++◌, ◌∷◌, [], false, true, IfOk, IsErrOf, List, length, ℕ};
+ghost use Rattle.std.specs.Prelude.{◌≡◌, ◌==◌, ◌↔◌, Ok, OnOk, ◌≤◌, ◌++◌, ◌∷◌, [], false, true, IfOk, IsErrOf, List, length, ℕ};
 ghost use Rattle.std.specs.List.{AllByRecursion, position};
-ghost use Rattle.object_text.specs.TreeMaps.{is_too_deep as is_too_deep_map, put_tree, put_trees, root_of, tree_id, trees_of};
-ghost use Rattle.object_text.specs.Trees.{IsTreeOrder};
+ghost use Rattle.object_text.specs.TreeMaps.{is_too_deep as is_too_deep_map, map_at, put_tree, put_trees, root_of, tree_id, trees_of};
+ghost use Rattle.object_text.specs.Trees.{HaveIds, IsTreeOrder};
 ghost use Rattle.seq_base.specs.Repository.{IsRepository};
 ghost use Rattle.seq_base.specs.World.{World};
 ghost use Rattle.seq_outside.specs.Drafts.{is_removed};
@@ -29,6 +29,7 @@ fn draft_tree<S: Store>(
     requires { IsTreeOrder entries.now }
     ensures drafted { S.told → IsDraftedAs (tree_id entries.now) (put_tree (written (S.content store.old) draft.old) entries.now) result (written (S.content store.old) draft.new) }
     ensures root { IfOk result (λ id. id ≡ tree_id entries.now) }
+    ensures ids { OnOk result (HaveIds entries.now) }
     ensures depth { IsErrOf result TreeFault.Depth → ⊥ }
     ensures adds { AddsObjects draft.old draft.new }
     ensures same { S.told → S.content store.new ≡ S.content store.old }
@@ -85,6 +86,7 @@ fn draft_folder<S: Store>(
     requires { GoesOnBehind skip rows.now }
     ensures drafted { S.told → IsDraftedAs (root_of (cut skip rows.now)) (put_trees (written (S.content store.old) draft.old) (trees_of (cut skip rows.now))) result (written (S.content store.old) draft.new) }
     ensures root { IfOk result (λ id. id ≡ root_of (cut skip rows.now)) }
+    ensures ids { OnOk result (AllByRecursion (λ e. length e.1.id ≡ 20) rows.now) }
     ensures depth { IsErrOf result TreeFault.Depth → ⊥ }
     ensures adds { AddsObjects draft.old draft.new }
     ensures same { S.told → S.content store.new ≡ S.content store.old }
@@ -111,9 +113,9 @@ fn draft_folder<S: Store>(
 }
 
 /// Drafts the trees of a map, one for each folder, a folder after its subfolders and the root last, and answers the root's id
-/// (git-write-tree(1)). Depth where a path has more than 256 parts, which is judged first; else, of the first tree that is not put,
-/// TooLarge where its content is larger than an object may be, and BadObject where another text stands in its file. At Err the
-/// draft may have some of the trees.
+/// (git-write-tree(1)), whose map is the map again. Depth where a path has more than 256 parts, which is judged first; else, of
+/// the first tree that is not put, TooLarge where its content is larger than an object may be, and BadObject where another text
+/// stands in its file. At Err the draft may have some of the trees.
 pub fn draft_map<S: Store>(
     alloc: Global,
     draft: &mut Draft,
@@ -122,6 +124,7 @@ pub fn draft_map<S: Store>(
 ) -> Result<Id, TreeFault>
     ensures drafted { S.told → IsDraftedAs (root_of map.now) (put_trees (written (S.content store.old) draft.old) (trees_of map.now)) result (written (S.content store.old) draft.new) }
     ensures root { IfOk result (λ id. id ≡ root_of map.now) }
+    ensures reads { S.told → IfOk result (λ root. map_at (written (S.content store.old) draft.new) root ≡ Ok map.now) }
     ensures depth { IsErrOf result TreeFault.Depth ↔ (is_too_deep_map map.now ≡ true) }
     ensures named { (path : List ℕ) → is_elsewhere path ≡ true → is_written draft.new path ≡ is_written draft.old path }
     ensures free { (w : World) → are_free w draft.old ≡ true → IsRepository (written w draft.old) → KeepsObjects draft.old → are_free w draft.new ≡ true }

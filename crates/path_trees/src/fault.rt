@@ -13,13 +13,14 @@ use thiserror::Error;
 /// Why a tree has no map, or a map no trees.
 #[derive(Clone, Copy, Debug, PartialEq, Eq, Drop, Error)]
 pub enum TreeFault {
-    /// The first object that is no tree, or is a tree that holds a path that is none.
+    /// The first object that is no tree, or is a tree that holds a path that is none; of trees to be put, the first in whose file
+    /// another text stands.
     #[error("the object is no tree")]
     BadObject { id: Id },
     /// That object has a content that is larger than an object may be.
     #[error("an object has at most 67108864 bytes, and this has {length}")]
     TooLarge { length: u64 },
-    /// A tree lies deeper than 256 trees on a chain.
+    /// A tree lies deeper than 256 trees on a chain, or would.
     #[error("trees are at most 256 deep")]
     Depth,
     #[error("the store failed")]
@@ -77,7 +78,7 @@ pub fn put_fault(fault: ObjectFault) -> TreeFault
     ensures { result ≡ put_fault_at fault }
 {
     match fault {
-        ObjectFault::TooLarge { length } => TreeFault::TooLarge { length },
+        ObjectFault::TooLarge { length: count } => TreeFault::TooLarge { length: count },
         ObjectFault::WrongHash { id, .. } => TreeFault::BadObject { id },
         ObjectFault::Collision { id, .. } => TreeFault::BadObject { id },
         ObjectFault::Fault => TreeFault::Fault,

@@ -4,6 +4,7 @@
 mod chain;
 mod draft;
 mod fault;
+pub mod laws;
 mod read;
 mod rows;
 mod tree;

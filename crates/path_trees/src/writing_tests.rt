@@ -1,12 +1,14 @@
 //! The ids are those of `git write-tree` over the same index.
 
+ghost use Rattle.std.specs.Prelude.{◌≡◌, ◌≢◌, IfOk};
+
 use crate::{TreeFault, draft_map, read_map, write_map};
 use object_text::Kind;
 use objects::put;
 use seq_base::{Bytes, Entry, Id, Mode, Path, PathMap};
 use seq_memory::QuietStore;
 use seq_outside::Draft;
-use std::alloc::Global;
+use std::alloc::{AllocError, Global};
 use std::test::Fail;
 
 const HELLO: &[u8] = b"ce013625030ba8dba906f756967f9e9ca394464a";
@@ -23,7 +25,9 @@ fn put_entry(
     path: &[u8],
     mode: Mode,
     hex: &[u8],
-) -> Result<(), Fail> {
+) -> Result<(), Fail>
+    requires { mode ≢ Mode.Folder }
+{
     let entry = Entry { mode, id: id(hex)? };
     let path = Path::new(alloc, path)?;
     map.insert(path, entry).ok().ok_or("not put")?;
@@ -112,35 +116,76 @@ fn trees_are_written_256_deep(rt: HostRuntime) -> Result<(), Fail> {
     Ok(())
 }
 
-// Another text stands in the file of the tree of `d`, so the root is not put.
+fn copy(alloc: Global, bytes: &[u8]) -> Result<Bytes, AllocError>
+    ensures { IfOk result (λ copy. copy ≡ bytes.now) }
+{
+    Ok(Bytes::from_vec(Vec::from_slice(alloc, bytes)?))
+}
+
+fn is_bad(answer: &Result<Id, TreeFault>, id: Id) -> bool {
+    match answer {
+        Err(TreeFault::BadObject { id: bad }) => *bad == id,
+        _ => false,
+    }
+}
+
+// Another text stands in the file of the tree of `d`.
 #[test]
 fn a_tree_whose_file_is_taken_is_told(rt: HostRuntime) -> Result<(), Fail> {
     let alloc = rt.alloc();
-    let mut store = QuietStore::new(alloc, &[])?;
-    let map = deep(alloc, 2)?;
-    let root = write_map(alloc, &mut store, &map)?;
-    let folder = id(b"6cef6fe5c1e8a0a9e5f36e7a7a0b7ab6d7b8d2b0")?;
+    let path = b".git/objects/10/731d0b170b98481a00bdca161e874e0ab93377";
     let mut draft = Draft::new(alloc);
-    let mut taken = QuietStore::new(alloc, &[])?;
-    let _ = (root, folder, &mut draft, &mut taken);
+    draft.put(copy(alloc, path)?, copy(alloc, b"x")?)?;
+    let mut store = QuietStore::new(alloc, &[])?;
+    let answer = draft_map(alloc, &mut draft, &mut store, &deep(alloc, 2)?);
+    let folder = id(b"10731d0b170b98481a00bdca161e874e0ab93377")?;
+    assert!(rt; is_bad(&answer, folder));
+    assert_eq!(rt; draft.writes().len(), 1);
     Ok(())
+}
+
+// The folders `a` and `b` are alike, so they are one tree; and a draft that has the trees gets none twice.
+#[test]
+fn a_draft_has_each_tree_once(rt: HostRuntime) -> Result<(), Fail> {
+    let alloc = rt.alloc();
+    let mut map = PathMap::new(alloc);
+    put_entry(alloc, &mut map, b"a/x", Mode::File, X)?;
+    put_entry(alloc, &mut map, b"b/x", Mode::File, X)?;
+    let mut store = QuietStore::new(alloc, &[])?;
+    let mut draft = Draft::new(alloc);
+    for _ in 0..2 {
+        let root = draft_map(alloc, &mut draft, &mut store, &map)?;
+        assert!(rt; root == id(b"aa8e00e34db61cd791571750c6e5e71105c2103a")?);
+    }
+    assert!(rt; store.content().is_empty());
+    assert_eq!(rt; draft.writes().len(), 2);
+    Ok(())
+}
+
+/// The tree of ten thousand files, as `git mktree` makes it.
+fn many(alloc: Global, store: &mut QuietStore) -> Result<Id, Fail> {
+    let mut content = Vec::new(alloc);
+    for n in 10_000..20_000_u32 {
+        let name = format!(in alloc; "100644 {n}")?;
+        content.extend_from_slice(name.as_bytes())?;
+        content.push(0)?;
+        content.extend_from_slice(id(HELLO)?.bytes())?;
+    }
+    Ok(
+        put(alloc, store, Kind::Tree, &content)
+            .ok()
+            .ok_or("not put")?,
+    )
 }
 
 #[test]
 fn many_files_are_written_at_once(rt: HostRuntime) -> Result<(), Fail> {
     let alloc = rt.alloc();
-    let mut entries = Vec::new(alloc);
-    let entry = Entry {
-        mode: Mode::File,
-        id: id(HELLO)?,
-    };
-    for n in 10_000..20_000_u32 {
-        let name = format!(in alloc; "{n}")?;
-        entries.push((Path::new(alloc, name.as_bytes())?, entry))?;
-    }
-    let map = PathMap::from_entries(entries);
     let mut store = QuietStore::new(alloc, &[])?;
-    let root = write_map(alloc, &mut store, &map)?;
-    assert_eq!(rt; read_map(alloc, &mut store, root)?.len(), 10_000);
+    let tree = many(alloc, &mut store)?;
+    assert!(rt; tree == id(b"dba209d57e55ed8a5899ff6af76a51978eba74c2")?);
+    let map = read_map(alloc, &mut store, tree)?;
+    let mut other = QuietStore::new(alloc, &[])?;
+    assert!(rt; write_map(alloc, &mut other, &map)? == tree);
     Ok(())
 }

@@ -1,4 +1,4 @@
-use Rattle.std.proofs.Common.{◌≡◌, false, length, nat_lt}
+use Rattle.std.proofs.Common.{◌≡◌, length, nat_lt}
 use Rattle.std.specs.List.{AllByRecursion, list_any}
 use Rattle.seq_base.specs.Paths.{IsPath, parts}
 use Rattle.path_trees.proofs.chain.is_too_deep.Given as goal

@@ -1,20 +1,18 @@
-use Rattle.std.proofs.Common.{◌≡◌, ◌+◌, ◌-◌, ◌<◌, ◌≤◌, ◌==◌, ◌∷◌, List, [], ◌++◌, ℕ, None, Some, Ok, Err, length, take, drop, refl, sym, ap, subst, ◌∙◌, arith, rules}
-use Rattle.std.specs.List.{position}
-use Rattle.std.specs.Result.{IfOk}
+use Rattle.std.proofs.Common.{◌≡◌, ◌+◌, ◌-◌, ◌<◌, ◌∷◌, List, [], ◌++◌, ℕ, length, take, drop, refl, sym, ap, subst, ◌∙◌, arith}
+use Rattle.std.specs.Result.{IfOk, OnOk}
 use Rattle.std.proofs.lemmas.List.{take_rest}
 use Rattle.std.proofs.lemmas.Result.{err_from_is_err_and}
 use Rattle.seq_base.specs.Paths.{IsPath}
-use Rattle.seq_base.specs.declared.map.Entry.{Entry}
 use Rattle.seq_base.specs.declared.mode.Mode.TheVariants.{Folder}
 use Rattle.seq_outside.specs.Writes.{written}
 use Rattle.seq_outside.proofs.Firsts.{first_and_others}
 use Rattle.object_text.specs.declared.tree.TreeEntry.{TreeEntry}
 use Rattle.object_text.specs.TreeMaps.{put_tree, tree_id}
-use Rattle.object_text.specs.Trees.{IsTreeOrder}
-use Rattle.path_trees.specs.Drafts.{AddsObjects, GoesOnBehind, IsDraftedAs, cut}
+use Rattle.object_text.specs.Trees.{HaveIds, IsTreeOrder}
+use Rattle.path_trees.specs.Drafts.{IsDraftedAs}
 use Rattle.path_trees.specs.Rows.{Rows}
 use Rattle.path_trees.proofs.Added.{adds_more}
-use Rattle.path_trees.proofs.Folders.{HasGroup, IsWay, falls, group_at, nothing, slash_found, way_ends, way_fails, way_file, way_folder, way_ordered, way_root, way_starts}
+use Rattle.path_trees.proofs.Folders.{HasGroup, IsWay, falls, group_at, nothing, slash_found, way_ends, way_fails, way_file, way_folder, way_ids, way_ordered, way_root}
 use Rattle.path_trees.proofs.draft.+draft_folder.Goals as goal
 use Rattle.path_trees.proofs.draft.+draft_folder.Goals.{After-split_at, In_default}
 
@@ -27,7 +25,7 @@ loop-rest-preserved-in-None g t c =
     let some : 0 < length left = omega arith in
     let after = take (length left - 1) (drop 1 left) in
     let way = way_file g.S.Store.told (g.S.Store.content c.args.store.now) c.args.skip c.args.rows.now left after x path c.loop-rest.entries.items c.args.draft.now c.loop-rest.draft
-        c.loop-rest.invariant.way (first_and_others left x some c.row-item.is) path_is (sym c.in-None.ensures) in
+    c.loop-rest.invariant.way (first_and_others left x some c.row-item.is) path_is (sym c.in-None.ensures) in
     let items : c.push.new.self.items ≡ c.loop-rest.entries.items ++ record { mode = x.1.mode; name = path; id = x.1.id } ∷ [] = c.in_ok-push-in-None.ensures.items ∙ ap (λ (e : TreeEntry). c.loop-rest.entries.items ++ e ∷ []) c.in_ok-entry-in-None.ensures in
     record {
       same = c.loop-rest.invariant.same;
@@ -60,8 +58,8 @@ returns-in_err-id-in-Some-clause-drafted g t c told =
     let path = take (length c.bytes.result.now - c.args.skip) (drop c.args.skip c.bytes.result.now) in
     let p = err_from_is_err_and c.from_residual-in_err-id-in-Some.result c.from_residual-in_err-id-in-Some.ensures.1 in
     rw (p.1, p.2) (way_fails g.S.Store.told v (g.S.Store.content c.loop-rest.store) c.args.skip (c.args.skip + c.in-Some.at + 1) c.args.rows.now c.loop-rest.rest.now c.split_at.result.0.now c.split_at.result.1.now (take c.in-Some.at path) c.loop-rest.entries.items
-        c.args.draft.now c.loop-rest.draft c.in_err-id-in-Some.field-0.0 (written (g.S.Store.content c.loop-rest.store) c.draft_folder.new.draft) (written v c.draft_folder.new.draft)
-        c.loop-rest.invariant.way (met g t (goal.at.returns-in_err-id-in-Some-clause-drafted g t c).After-split_at) told (c.loop-rest.invariant.same told) (c.in_err-id-in-Some.ensures.drafted told))
+    c.args.draft.now c.loop-rest.draft c.in_err-id-in-Some.field-0.0 (written (g.S.Store.content c.loop-rest.store) c.draft_folder.new.draft) (written v c.draft_folder.new.draft)
+    c.loop-rest.invariant.way (met g t (goal.at.returns-in_err-id-in-Some-clause-drafted g t c).After-split_at) told (c.loop-rest.invariant.same told) (c.in_err-id-in-Some.ensures.drafted told))
 
 pub returns-in_err-id-in-Some-clause-adds : goal.returns-in_err-id-in-Some-clause-adds
 returns-in_err-id-in-Some-clause-adds g t c = adds_more c.args.draft.now c.loop-rest.draft c.draft_folder.new.draft c.loop-rest.invariant.way.adds c.draft_folder.ensures.adds
@@ -84,7 +82,7 @@ loop-rest-preserved g t c =
     let id = c.in_ok-id-in-Some.id in
     let items : c.push-in-Some.new.self.items ≡ c.loop-rest.entries.items ++ record { mode = Folder; name = name; id = id } ∷ [] = c.in_ok-push-in-Some.ensures.items ∙ ap (λ (e : TreeEntry). c.loop-rest.entries.items ++ e ∷ []) c.in_ok-entry-in-Some.ensures in
     let way = way_folder g.S.Store.told v here c.args.skip (c.args.skip + c.in-Some.at + 1) c.args.rows.now c.loop-rest.rest.now c.split_at.result.0.now c.split_at.result.1.now name id c.loop-rest.entries.items c.args.draft.now c.loop-rest.draft c.draft_folder.new.draft
-        c.loop-rest.invariant.way (met g t (goal.at.loop-rest-preserved g t c).After-split_at) c.loop-rest.invariant.same c.in_ok-id-in-Some.ensures.root c.in_ok-id-in-Some.ensures.adds c.in_ok-id-in-Some.ensures.drafted in
+    c.loop-rest.invariant.way (met g t (goal.at.loop-rest-preserved g t c).After-split_at) c.loop-rest.invariant.same c.in_ok-id-in-Some.ensures.root c.in_ok-id-in-Some.ensures.adds c.in_ok-id-in-Some.ensures.ids c.in_ok-id-in-Some.ensures.drafted in
     record {
       same = λ told. c.in_ok-id-in-Some.ensures.same told ∙ c.loop-rest.invariant.same told;
       way = subst (λ (es : List TreeEntry). IsWay g.S.Store.told v c.args.skip c.args.rows.now c.split_at.result.1.now es c.args.draft.now c.draft_folder.new.draft) (sym items) way;
@@ -116,3 +114,8 @@ returns-clause-root g t c =
 
 pub returns-clause-adds : goal.returns-clause-adds
 returns-clause-adds g t c = adds_more c.args.draft.now c.loop-rest.draft c.draft_tree.new.draft c.loop-rest.invariant.way.adds c.draft_tree.ensures.adds
+
+pub returns-clause-ids : goal.returns-clause-ids
+returns-clause-ids g t c =
+    let ids = subst (λ (es : List TreeEntry). OnOk c.draft_tree.result (HaveIds es)) c.deref.ensures.value c.draft_tree.ensures.ids in
+    way_ids g.S.Store.told (g.S.Store.content c.args.store.now) c.args.skip c.args.rows.now c.loop-rest.entries.items c.args.draft.now c.loop-rest.draft c.draft_tree.result (over g t (goal.at.returns-clause-ids g t c).In_default) ids

@@ -1,4 +1,4 @@
-use Rattle.std.proofs.Common.{◌≡◌, ◌+◌, ◌-◌, ◌<◌, ◌≤◌, ◌==◌, false, true, List, ℕ, length, take, drop, sym, ap, subst, ◌∙◌, arith, rules}
+use Rattle.std.proofs.Common.{◌≡◌, ◌-◌, ◌<◌, ◌≤◌, ◌==◌, false, true, List, ℕ, length, take, drop, sym, subst, arith, rules}
 use Rattle.std.specs.List.{starts_with}
 use Rattle.seq_base.specs.declared.map.Entry.{Entry}
 use Rattle.path_trees.proofs.Cuts.{all_behind, counts, stops}

@@ -1,6 +1,6 @@
-use Rattle.std.proofs.Common.{◌≡◌, ◌≤◌, List, ℕ, length, Ok, Err, sym, ap, subst, ◌∙◌}
+use Rattle.std.proofs.Common.{◌≤◌, List, ℕ, length, Ok, Err, subst, ◌∙◌}
 use Rattle.seq_outside.specs.Writes.{written}
-use Rattle.object_text.specs.Store.{content_limit, object_path}
+use Rattle.object_text.specs.Store.{content_limit}
 use Rattle.object_text.specs.declared.object.Kind.TheVariants.{Tree}
 use Rattle.objects.specs.Drafted.{HasLengthJudged, IsDrafted}
 use Rattle.path_trees.proofs.Added.{other_path}

@@ -1,4 +1,4 @@
-use Rattle.std.proofs.Common.{◌≡◌, ◌⊎◌, List, None, Ok, inl, inr, map, sym, ap, subst, ◌∙◌}
+use Rattle.std.proofs.Common.{◌≡◌, ◌⊎◌, List, None, Ok, map, sym, ap, subst, ◌∙◌}
 use Rattle.std.specs.FinMap as held
 use Rattle.seq_base.specs.World.{World}
 use Rattle.seq_outside.specs.Writes.{written}
