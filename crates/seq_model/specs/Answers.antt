@@ -1,6 +1,9 @@
 -- What an invocation answers, by its words and by what the store holds.
-use Rattle.std.specs.Prelude.{◌≡◌, ℕ, ℤ, ◌++◌, take, List, Some, Result, Ok, Err}
+use Rattle.std.specs.FinMap as map
+use Rattle.std.specs.Prelude.{◌≡◌, ◌⊎◌, ℕ, ℤ, ◌++◌, take, List, Some, Result, Ok, Err}
 use Rattle.seq_base.specs.World.{World}
+use Rattle.seq_model.specs.Changes.{Changes}
+use Rattle.seq_model.specs.Making.{Made}
 use Rattle.seq_model.specs.Pick.{picked}
 use Rattle.seq_model.specs.Report.{report_of}
 use Rattle.seq_model.specs.Words.{words_read}
@@ -10,19 +13,49 @@ use Rattle.seq_model.specs.declared.denial.Denial.{Denial}
 use Rattle.seq_model.specs.declared.denial.Denial.TheVariants as denied
 use Rattle.seq_model.specs.declared.usage.UsageFault.{UsageFault}
 use Rattle.seq_outside.specs.Causes.{Rose}
+use Rattle.seq_outside.specs.declared.env.Env.{Env}
 
-abbrev pub ended : Result (List ℕ) Denial → Outcome
-ended (Ok head) = Done (Some head)
+abbrev pub ended : Result Made Denial → Outcome
+ended (Ok made) = Done (Some made.head)
 ended (Err (denied.Refused refusal)) = Refused refusal
 ended (Err (denied.Limit what number)) = Limit what number
 
-abbrev pub answer_to : Result (List ℕ) UsageFault → List (List ℕ × List ℕ) → World → Outcome
-answer_to (Ok word) vars w = ended (picked vars w word)
-answer_to (Err fault) vars w = Usage fault
+abbrev pub answer_to : Result (List ℕ) UsageFault → Env → ℤ → World → Outcome
+answer_to (Ok word) env secs w = ended (picked env secs w word)
+answer_to (Err fault) env secs w = Usage fault
 
--- the answer, where nothing fails and memory is ample
-abbrev pub answer_of : List (List ℕ) → List (List ℕ × List ℕ) → World → Outcome
-answer_of words vars w = answer_to (words_read words) vars w
+-- the answer, where nothing fails and memory is ample; the seconds are those at which a commit is made
+abbrev pub answer_of : List (List ℕ) → Env → ℤ → World → Outcome
+answer_of words env secs w = answer_to (words_read words) env secs w
+
+abbrev pub made_world : World → Result Made Denial → World
+made_world w (Ok made) = made.world
+made_world w (Err denial) = w
+
+abbrev pub aim_to : Result (List ℕ) UsageFault → Env → ℤ → World → World
+aim_to (Ok word) env secs w = made_world w (picked env secs w word)
+aim_to (Err fault) env secs w = w
+
+-- the world that an invocation leaves, where nothing fails and memory is ample
+abbrev pub aim_of : List (List ℕ) → Env → ℤ → World → World
+aim_of words env secs w = aim_to (words_read words) env secs w
+
+-- each file is as it was, or as in the world that was aimed at
+abbrev pub IsBetween : World → World → World → Type 0
+IsBetween old aim new = (path : List ℕ) → (map.get new path ≡ map.get old path) ⊎ (map.get new path ≡ map.get aim path)
+
+-- What an outcome leaves: the world that was aimed at where all is done, what stood where it is refused, and after a fault of the store or
+-- want of memory each file as it stood or as it was to be.
+abbrev pub Leaves : Outcome → World → World → World → Type 0
+Leaves (Done head) old aim new = new ≡ aim
+Leaves (Stopped kind paths) old aim new = ⊥
+Leaves (Usage fault) old aim new = new ≡ old
+Leaves (Refused refusal) old aim new = new ≡ old
+Leaves StoreFault old aim new = IsBetween old aim new
+Leaves ChildFault old aim new = ⊥
+Leaves OutputFault old aim new = ⊥
+Leaves (Limit what number) old aim new = new ≡ old
+Leaves Memory old aim new = IsBetween old aim new
 
 abbrev pub IsRead : Result (List ℕ) UsageFault → Type 0
 IsRead (Ok word) = Unit {0}
@@ -80,30 +113,39 @@ Prints OutputFault judged old new = AddsPrefix old (report_of judged) new
 Prints (Limit what number) judged old new = new ≡ old ++ report_of judged
 Prints Memory judged old new = AddsPrefix old (report_of judged) new
 
--- Which counts rose with which outcome: StoreFault only with the store's, and where that rose only StoreFault, OutputFault or
--- Memory; OutputFault only with the sink's; ChildFault only with the spawner's, which no call moves.
-abbrev pub HasCause : Outcome → ℕ → ℕ → ℕ → ℕ → Type 0
-HasCause (Done head) store store' sink sink' = store' ≡ store
-HasCause (Stopped kind paths) store store' sink sink' = store' ≡ store
-HasCause (Usage fault) store store' sink sink' = store' ≡ store
-HasCause (Refused refusal) store store' sink sink' = store' ≡ store
-HasCause StoreFault store store' sink sink' = Rose store store'
-HasCause ChildFault store store' sink sink' = ⊥
-HasCause OutputFault store store' sink sink' = Rose sink sink'
-HasCause (Limit what number) store store' sink sink' = store' ≡ store
-HasCause Memory store store' sink sink' = Unit {0}
+-- Which counts rose with which outcome: StoreFault only with a count of the store, and where that of its faults rose only StoreFault,
+-- OutputFault or Memory; OutputFault only with the sink's; ChildFault only with the spawner's, which no call moves.
+abbrev pub HasCause : Outcome → ℕ → ℕ → ℕ → ℕ → ℕ → ℕ → Type 0
+HasCause (Done head) store store' blocked blocked' sink sink' = store' ≡ store
+HasCause (Stopped kind paths) store store' blocked blocked' sink sink' = store' ≡ store
+HasCause (Usage fault) store store' blocked blocked' sink sink' = store' ≡ store
+HasCause (Refused refusal) store store' blocked blocked' sink sink' = store' ≡ store
+HasCause StoreFault store store' blocked blocked' sink sink' = Rose store store' ⊎ Rose blocked blocked'
+HasCause ChildFault store store' blocked blocked' sink sink' = ⊥
+HasCause OutputFault store store' blocked blocked' sink sink' = Rose sink sink'
+HasCause (Limit what number) store store' blocked blocked' sink sink' = store' ≡ store
+HasCause Memory store store' blocked blocked' sink sink' = Unit {0}
 
--- An outcome of an invocation. `told` and `sink_told` hold of a store and of a sink that tell what they hold; `store` and `sink`
--- count their faults, before and after.
-pub record Answers (told sink_told : Type 0) (words : List (List ℕ)) (vars : List (List ℕ × List ℕ)) (w : World) (store store' sink sink' : ℕ) (printed printed' : List ℕ) (outcome : Outcome) : Type 0 where
-  pub judged : Outcome
-  pub fits_words : FitsWords judged (words_read words)
-  pub fits_world : told → FitsWorld judged (answer_of words vars w)
-  pub fits_judged : FitsJudged outcome judged
-  pub prints : sink_told → Prints outcome judged printed printed'
-  pub cause : HasCause outcome store store' sink sink'
+-- The second moment is that of the commit: it is taken where one is made, and where nothing is done it may be.
+abbrev pub TakesSecond : {C : Type 0} → (C → ℤ → C → Type 0) → Outcome → C → ℤ → C → Type 0
+TakesSecond ticked (Done head) clock secs clock' = ticked clock secs clock'
+TakesSecond ticked outcome clock secs clock' = (clock' ≡ clock) ⊎ ticked clock secs clock'
 
 -- Bad words take no moment. Others take the first before the store is asked.
-abbrev pub TakesMoments : {C : Type 0} → (C → ℤ → C → Type 0) → Result (List ℕ) UsageFault → C → C → Type 0
-TakesMoments ticked (Ok word) clock clock' = (moment : ℤ) × ticked clock moment clock'
-TakesMoments ticked (Err fault) clock clock' = clock' ≡ clock
+abbrev pub TakesMoments : {C : Type 0} → (C → ℤ → C → Type 0) → Result (List ℕ) UsageFault → Outcome → C → ℤ → C → Type 0
+TakesMoments {C} ticked (Ok word) outcome clock secs clock' = (first : ℤ) × (between : C) × ticked clock first between × TakesSecond ticked outcome between secs clock'
+TakesMoments ticked (Err fault) outcome clock secs clock' = clock' ≡ clock
+
+-- An outcome of an invocation. `told` and `sink_told` hold of a store and of a sink that tell what they hold; `store`, `blocked` and `sink`
+-- count their faults and blocked puts, before and after; `ticked` is what a clock tells.
+pub record Answers {C : Type 0} (told sink_told : Type 0) (ticked : C → ℤ → C → Type 0) (words : List (List ℕ)) (env : Env) (w w' : World) (clock clock' : C) (store store' blocked blocked' sink sink' : ℕ) (printed printed' : List ℕ) (outcome : Outcome) : Type 0 where
+  pub judged : Outcome
+  pub secs : ℤ
+  pub moments : TakesMoments ticked (words_read words) judged clock secs clock'
+  pub fits_words : FitsWords judged (words_read words)
+  pub fits_world : told → FitsWorld judged (answer_of words env secs w)
+  pub leaves : told → Leaves judged w (aim_of words env secs w) w'
+  pub changes : told → Changes w w' judged store store'
+  pub fits_judged : FitsJudged outcome judged
+  pub prints : sink_told → Prints outcome judged printed printed'
+  pub cause : HasCause outcome store store' blocked blocked' sink sink'

@@ -15,5 +15,7 @@ pub mod Branches
 pub mod Unbuilt
 pub mod Committers
 pub mod Commits
+pub mod Making
+pub mod Changes
 pub mod Pick
 pub mod Answers

@@ -1,5 +1,5 @@
 -- The least of one or two paths.
-use Rattle.std.proofs.Common.{◌≡◌, Bool, true, false, List, [], ◌∷◌, ℕ, Some, refl}
+use Rattle.std.proofs.Common.{◌≡◌, true, false, List, [], ◌∷◌, ℕ, Some, refl}
 use Rattle.seq_base.specs.PathMaps.{is_less}
 use Rattle.stage_index.specs.Least.{least}
 use Rattle.stage_index.proofs.Orders.{less_back, not_less_itself}

@@ -1,5 +1,5 @@
 -- What an invocation makes of what was read of an object, of a commit and of a map.
-use Rattle.std.proofs.Common.{◌≡◌, ℕ, ◌<◌, ◌≤◌, Bool, true, false, cond, List, length, Option, Some, None, Result, Ok, Err, refl, sym, ap, ◌∙◌, arith}
+use Rattle.std.proofs.Common.{◌≡◌, ℕ, ◌<◌, ◌≤◌, Bool, true, false, List, length, Option, Some, None, Result, Ok, Err, refl, sym, ap, ◌∙◌, arith}
 use Rattle.std.specs.Prelude.{nat_le, nat_lt, option_and_then}
 use Rattle.std.specs.FinMap as map
 use Rattle.std.proofs.lemmas.Bool.Decides.{nat_tests}
@@ -27,7 +27,7 @@ use Rattle.seq_base.specs.World.{World}
 use Rattle.seq_base.specs.declared.map.Entry.{Entry}
 use Rattle.seq_model.specs.Commits.{commit_spelled, map_named, object_named}
 use Rattle.seq_model.specs.declared.denial.Denial.TheVariants.{Refused, Limit}
-use Rattle.seq_model.specs.declared.limit.LimitWhat.TheVariants.{ObjectBytes, Parents}
+use Rattle.seq_model.specs.declared.limit.LimitWhat.TheVariants.{Parents}
 use Rattle.seq_model.specs.declared.refusal.Refusal.TheVariants.{BadObject}
 use Rattle.seq_top.specs.Halts.{Gives, halt_of_commit, halt_of_object, halt_of_tree}
 

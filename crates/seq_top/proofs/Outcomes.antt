@@ -1,5 +1,5 @@
 -- An outcome has its cause where what was judged has one and printing has one.
-use Rattle.std.proofs.Common.{◌≡◌, ◌≢◌, ℕ, List, refl, sym, subst}
+use Rattle.std.proofs.Common.{◌≡◌, ◌≢◌, ℕ, List, refl, subst}
 use Rattle.std.specs.Prelude.{Result}
 use Rattle.seq_model.specs.Answers.{FitsJudged, FitsWords, HasCause}
 use Rattle.seq_model.specs.declared.outcome.Outcome.{Outcome}
@@ -14,14 +14,14 @@ judged_output judged read fits is = subst (λ (o : Outcome). FitsWords o read) i
 judged_child : (judged : Outcome) (read : Result (List ℕ) UsageFault) → FitsWords judged read → judged ≡ ChildFault → ⊥
 judged_child judged read fits is = subst (λ (o : Outcome). FitsWords o read) is fits
 
-module _ (judged : Outcome) (read : Result (List ℕ) UsageFault) (store store' sink sink' : ℕ) (fits : FitsWords judged read) (cause : HasJudgedCause judged store store') where
-  pub outcome_has_cause : (outcome : Outcome) → FitsJudged outcome judged → (outcome ≡ OutputFault → judged ≢ OutputFault → Rose sink sink') → HasCause outcome store store' sink sink'
-  outcome_has_cause (Done head) is rose = subst (λ (o : Outcome). HasJudgedCause o store store') is cause
-  outcome_has_cause (Stopped kind paths) is rose = subst (λ (o : Outcome). HasJudgedCause o store store') is cause
-  outcome_has_cause (Usage fault) is rose = subst (λ (o : Outcome). HasJudgedCause o store store') is cause
-  outcome_has_cause (Refused refusal) is rose = subst (λ (o : Outcome). HasJudgedCause o store store') is cause
-  outcome_has_cause StoreFault is rose = subst (λ (o : Outcome). HasJudgedCause o store store') is cause
+module _ (judged : Outcome) (read : Result (List ℕ) UsageFault) (store store' blocked blocked' sink sink' : ℕ) (fits : FitsWords judged read) (cause : HasJudgedCause judged store store' blocked blocked') where
+  pub outcome_has_cause : (outcome : Outcome) → FitsJudged outcome judged → (outcome ≡ OutputFault → judged ≢ OutputFault → Rose sink sink') → HasCause outcome store store' blocked blocked' sink sink'
+  outcome_has_cause (Done head) is rose = subst (λ (o : Outcome). HasJudgedCause o store store' blocked blocked') is cause
+  outcome_has_cause (Stopped kind paths) is rose = subst (λ (o : Outcome). HasJudgedCause o store store' blocked blocked') is cause
+  outcome_has_cause (Usage fault) is rose = subst (λ (o : Outcome). HasJudgedCause o store store' blocked blocked') is cause
+  outcome_has_cause (Refused refusal) is rose = subst (λ (o : Outcome). HasJudgedCause o store store' blocked blocked') is cause
+  outcome_has_cause StoreFault is rose = subst (λ (o : Outcome). HasJudgedCause o store store' blocked blocked') is cause
   outcome_has_cause ChildFault is rose = judged_child judged read fits is
   outcome_has_cause OutputFault is rose = rose refl (judged_output judged read fits)
-  outcome_has_cause (Limit what number) is rose = subst (λ (o : Outcome). HasJudgedCause o store store') is cause
+  outcome_has_cause (Limit what number) is rose = subst (λ (o : Outcome). HasJudgedCause o store store' blocked blocked') is cause
   outcome_has_cause Memory is rose = tt

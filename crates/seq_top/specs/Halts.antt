@@ -1,5 +1,5 @@
 -- How the answer of a step goes with its definition and with the store's count of faults.
-use Rattle.std.specs.Prelude.{◌≡◌, ℕ, List, Result, Ok, Err}
+use Rattle.std.specs.Prelude.{◌≡◌, ◌⊎◌, ℕ, List, Result, Ok, Err}
 use Rattle.seq_model.specs.declared.denial.Denial.{Denial}
 use Rattle.seq_outside.specs.Causes.{Rose}
 use Rattle.seq_outside.specs.declared.store.StoreError.{StoreError}
@@ -13,6 +13,8 @@ use Rattle.path_trees.specs.declared.fault.TreeFault.TheVariants as trees
 use Rattle.seq_model.specs.declared.denial.Denial.TheVariants as denied
 use Rattle.seq_model.specs.declared.limit.LimitWhat.TheVariants.{ObjectBytes, Parents, TreeDepth}
 use Rattle.seq_model.specs.declared.refusal.Refusal.TheVariants.{BadObject}
+use Rattle.ref_store.specs.declared.fault.RefFault.{RefFault}
+use Rattle.ref_store.specs.declared.fault.RefFault.TheVariants as refs
 use Rattle.seq_top.specs.declared.halt.Halt.{Halt}
 use Rattle.seq_top.specs.declared.halt.Halt.TheVariants.{Denied, Fault, Memory}
 
@@ -42,12 +44,20 @@ halt_of_object id (objects.Collision wanted kept) = Denied (denied.Refused (BadO
 halt_of_object id objects.Fault = Fault
 halt_of_object id objects.Memory = Memory
 
+abbrev pub halt_of_ref : RefFault → Halt
+halt_of_ref refs.Fault = Fault
+halt_of_ref refs.Memory = Memory
+
+-- the definition denies what was denied
+abbrev pub Denies : {Y : Type 0} → Halt → Result Y Denial → Type 0
+Denies (Denied denial) means = means ≡ Err denial
+Denies Fault means = Unit {0}
+Denies Memory means = Unit {0}
+
 -- What a step answered, seen by `view`, is what the definition gives, unless the store failed or memory ran out.
 abbrev pub Gives : {X Y : Type 0} → (X → Y) → Result X Halt → Result Y Denial → Type 0
 Gives view (Ok x) means = means ≡ Ok (view x)
-Gives view (Err (Denied denial)) means = means ≡ Err denial
-Gives view (Err Fault) means = Unit {0}
-Gives view (Err Memory) means = Unit {0}
+Gives view (Err halt) means = Denies halt means
 
 -- A step that only reads: Fault comes only where the count of faults rose, and where it rose the answer is Fault or Memory.
 abbrev pub HasHaltCause : {T : Type 0} → Result T Halt → ℕ → ℕ → Type 0
@@ -55,3 +65,10 @@ HasHaltCause (Ok x) faults faults' = faults' ≡ faults
 HasHaltCause (Err (Denied denial)) faults faults' = faults' ≡ faults
 HasHaltCause (Err Fault) faults faults' = Rose faults faults'
 HasHaltCause (Err Memory) faults faults' = Unit {0}
+
+-- A step that writes at its end: Fault comes only where a count rose, and where that of faults rose the answer is Fault or Memory.
+abbrev pub HasWriteCause : {T : Type 0} → Result T Halt → ℕ → ℕ → ℕ → ℕ → Type 0
+HasWriteCause (Ok x) faults faults' blocked blocked' = faults' ≡ faults
+HasWriteCause (Err (Denied denial)) faults faults' blocked blocked' = faults' ≡ faults
+HasWriteCause (Err Fault) faults faults' blocked blocked' = Rose faults faults' ⊎ Rose blocked blocked'
+HasWriteCause (Err Memory) faults faults' blocked blocked' = Unit {0}

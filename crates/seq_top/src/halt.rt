@@ -2,6 +2,7 @@
 
 ghost use Rattle.std.specs.Prelude.{◌≡◌};
 
+use ref_store::RefFault;
 use seq_model::{Denial, Refusal};
 use seq_outside::StoreError;
 use std::alloc::{AllocError, AllocFailed};
@@ -33,6 +34,19 @@ impl From<StoreError> for Halt {
             StoreError::Failed => Halt::Fault,
             StoreError::Blocked => Halt::Fault,
             StoreError::Memory => Halt::Memory,
+        }
+    }
+}
+
+impl From<RefFault> for Halt {
+    ghost use Rattle.seq_top.specs.Halts.{halt_of_ref};
+
+    ghost from_gives = { λ fault halt. halt ≡ halt_of_ref fault };
+
+    fn from(fault: RefFault) -> Halt {
+        match fault {
+            RefFault::Fault => Halt::Fault,
+            RefFault::Memory => Halt::Memory,
         }
     }
 }

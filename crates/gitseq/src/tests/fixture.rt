@@ -19,6 +19,10 @@ pub const INDEX: &[u8] =
 pub const INDEX_OF_2: &[u8] =
     b"DIRC\0\0\0\x02\0\0\0\x02\0\0\0\0\0\0\0\0\0\0\0\0\0\0\0\0\0\0\0\0\0\0\0\0\0\0\x81\xa4\0\0\0\0\0\0\0\0\0\0\0\0\x0c\xfb\xf0\x88\x86\xfc\xa9\xa9\x1c\xb7S\xec\x874\xc8O\xcb\xe5,\x9f\0\x01a\0\0\0\0\0\0\0\0\0\0\0\0\0\0\0\0\0\0\0\0\0\0\0\0\0\0\0\x81\xa4\0\0\0\0\0\0\0\0\0\0\0\0\xce\x016%\x03\x0b\xa8\xdb\xa9\x06\xf7V\x96\x7f\x9e\x9c\xa3\x94FJ\0\x01c\0|w^:b:pJ\xd5\xbcT_\xfb[O\xbce\x8b\x1a\xfd";
 
+/// The index that Git writes of `add b` picked onto `add c`.
+pub const PICKED_INDEX: &[u8] =
+    b"DIRC\0\0\0\x02\0\0\0\x03\0\0\0\0\0\0\0\0\0\0\0\0\0\0\0\0\0\0\0\0\0\0\0\0\0\0\x81\xa4\0\0\0\0\0\0\0\0\0\0\0\0\xce\x016%\x03\x0b\xa8\xdb\xa9\x06\xf7V\x96\x7f\x9e\x9c\xa3\x94FJ\0\x01a\0\0\0\0\0\0\0\0\0\0\0\0\0\0\0\0\0\0\0\0\0\0\0\0\0\0\0\x81\xa4\0\0\0\0\0\0\0\0\0\0\0\0\xe6\x9d\xe2\x9b\xb2\xd1\xd6CK\x8b)\xaewZ\xd8\xc2\xe4\x8cS\x91\0\x01b\0\0\0\0\0\0\0\0\0\0\0\0\0\0\0\0\0\0\0\0\0\0\0\0\0\0\0\x81\xa4\0\0\0\0\0\0\0\0\0\0\0\0\xce\x016%\x03\x0b\xa8\xdb\xa9\x06\xf7V\x96\x7f\x9e\x9c\xa3\x94FJ\0\x01c\0)P%\xcdPr\x1d\xa0\x06@\x82/U\xc9$\x8b\xbe[4k";
+
 const OBJECTS: [(&str, &[u8]); 18] = [
     (
         ".git/objects/00/750edc07d6415dcc07ae0351e9397b0222b7ba",

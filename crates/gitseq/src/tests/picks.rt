@@ -3,9 +3,9 @@
 ghost use Rattle.std.specs.Prelude.{IfOk};
 ghost use Rattle.seq_outside.specs.Env.{IsZone};
 
-use crate::tests::fixture::{A_IS_3, ADD_B, BASE, INDEX_OF_2, files, store};
+use crate::tests::fixture::{A_IS_3, ADD_B, BASE, INDEX_OF_2, PICKED_INDEX, files, store};
 use seq_base::Bytes;
-use seq_memory::{ListClock, QuietSink, QuietSpawner};
+use seq_memory::{ListClock, QuietSink, QuietSpawner, QuietStore};
 use seq_outside::{Env, Variables};
 use std::alloc::Global;
 use std::test::Fail;
@@ -27,6 +27,13 @@ fn environment(alloc: Global, name: &str, email: &str) -> Result<Env, Fail>
     })
 }
 
+fn words_of(alloc: Global, word: &str) -> Result<Vec<Bytes>, Fail> {
+    let mut words = Vec::new(alloc);
+    words.push(Bytes::from_vec(b"cherry-pick".to_vec(alloc)?))?;
+    words.push(Bytes::from_vec(word.as_bytes().to_vec(alloc)?))?;
+    Ok(words)
+}
+
 /// Whether a pick of this word by this committer prints so, over the repository with these changes.
 fn prints_for(
     alloc: Global,
@@ -35,9 +42,7 @@ fn prints_for(
     word: &str,
     printed: &str,
 ) -> Result<bool, Fail> {
-    let mut words = Vec::new(alloc);
-    words.push(Bytes::from_vec(b"cherry-pick".to_vec(alloc)?))?;
-    words.push(Bytes::from_vec(word.as_bytes().to_vec(alloc)?))?;
+    let words = words_of(alloc, word)?;
     let env = environment(alloc, committer.0, committer.1)?;
     let mut store = store(alloc, &files(alloc, changes)?)?;
     let mut spawner = QuietSpawner::new(Vec::new(alloc));
@@ -64,7 +69,10 @@ fn prints(
     prints_for(alloc, ("Sam", "sam@x"), changes, word, printed)
 }
 
-// Each stands in the way of a pick until it is taken up.
+/// A file that is `refused dirty c` where nothing speaks against a pick before.
+const CHANGED: (&str, &[u8]) = ("c", b"changed\n");
+
+// Each stands in the way of a pick until it is taken up, and is told before a changed file.
 #[test]
 fn what_is_not_taken_yet_is_not_built(rt: HostRuntime) -> Result<(), Fail> {
     let alloc = rt.alloc();
@@ -83,20 +91,35 @@ fn what_is_not_taken_yet_is_not_built(rt: HostRuntime) -> Result<(), Fail> {
         (".git/HEAD", b"ref: refs/heads/a/b\n"),
         (".git/refs/heads/master", b"d121\n"),
     ] {
-        assert!(rt; prints(alloc, &[(path, bytes)], ADD_B, "refused not-built\n")?);
+        assert!(rt;
+            prints(
+                alloc,
+                &[(path, bytes), CHANGED],
+                ADD_B,
+                "refused not-built\n"
+            )?
+        );
     }
     Ok(())
 }
 
-// A commit is named by forty digits, and has one parent.
+// A commit is named by forty digits, and has one parent. Each is told before a changed file.
 #[test]
 fn words_that_are_not_taken_yet_are_not_built(rt: HostRuntime) -> Result<(), Fail> {
     let alloc = rt.alloc();
     let long = "063e68e4d0d70bddbb9e204763cae96183b574ca0";
-    assert!(rt; prints(alloc, &[], long, "refused not-built\n")?);
-    assert!(rt; prints(alloc, &[], BASE, "refused not-built\n")?);
-    assert!(rt; prints_for(alloc, ("Sam", ""), &[], ADD_B, "refused not-built\n")?);
-    assert!(rt; prints_for(alloc, ("S<m", "sam@x"), &[], ADD_B, "refused not-built\n")?);
+    assert!(rt; prints(alloc, &[CHANGED], long, "refused not-built\n")?);
+    assert!(rt; prints(alloc, &[CHANGED], BASE, "refused not-built\n")?);
+    assert!(rt; prints_for(alloc, ("Sam", ""), &[CHANGED], ADD_B, "refused not-built\n")?);
+    assert!(rt;
+        prints_for(
+            alloc,
+            ("S<m", "sam@x"),
+            &[CHANGED],
+            ADD_B,
+            "refused not-built\n"
+        )?
+    );
     Ok(())
 }
 
@@ -135,8 +158,7 @@ fn bad_objects_are_named(rt: HostRuntime) -> Result<(), Fail> {
 #[test]
 fn changes_and_conflicts_are_refused(rt: HostRuntime) -> Result<(), Fail> {
     let alloc = rt.alloc();
-    let changed = ("c", b"changed\n".as_slice());
-    assert!(rt; prints(alloc, &[changed], ADD_B, "refused dirty c\n")?);
+    assert!(rt; prints(alloc, &[CHANGED], ADD_B, "refused dirty c\n")?);
     let tip = (
         ".git/refs/heads/master",
         b"c56e2533085588af6f12caf4e915ee63c70bea54\n".as_slice(),
@@ -147,7 +169,7 @@ fn changes_and_conflicts_are_refused(rt: HostRuntime) -> Result<(), Fail> {
     assert!(rt;
         prints(
             alloc,
-            &[tip, index, a, changed],
+            &[tip, index, a, CHANGED],
             A_IS_3,
             "refused dirty c\n"
         )?
@@ -161,5 +183,66 @@ fn an_index_of_another_version_is_bad(rt: HostRuntime) -> Result<(), Fail> {
     let alloc = rt.alloc();
     let index = (".git/index", b"DIRC\0\0\0\x04\0\0\0\0".as_slice());
     assert!(rt; prints(alloc, &[index], ADD_B, "refused bad-index version 4\n")?);
+    Ok(())
+}
+
+/// Whether the store has this file with these bytes.
+fn has(store: &QuietStore, path: &str, bytes: &[u8]) -> bool {
+    store.content().iter().any(|file| file.0.as_slice() == path.as_bytes()
+        && file.1.as_slice() == bytes)
+}
+
+/// Whether the store has what `git cherry-pick` leaves of `add b` on `add c`: the tree, the commit, the files and the logs.
+fn is_picked(store: &QuietStore) -> bool {
+    let tree =
+        b"tree 87\0100644 a\0\xce\x016%\x03\x0b\xa8\xdb\xa9\x06\xf7V\x96\x7f\x9e\x9c\xa3\x94FJ100644 b\0\xe6\x9d\xe2\x9b\xb2\xd1\xd6CK\x8b)\xaewZ\xd8\xc2\xe4\x8cS\x91100644 c\0\xce\x016%\x03\x0b\xa8\xdb\xa9\x06\xf7V\x96\x7f\x9e\x9c\xa3\x94FJ";
+    let commit =
+        b"commit 164\0tree 228c1e7fc028b51a61ed40dbc7546c6a4c9a75e6\nparent d121e10699140c3fa862544172d391513c3337cf\nauthor Ann <ann@x> 1000 +0000\ncommitter Sam <sam@x> 2000 +0000\n\nadd b\n";
+    let line =
+        b"d121e10699140c3fa862544172d391513c3337cf 6f78c7f745e65aa003201d6ab87f9d215ba50ed2 Sam <sam@x> 2000 +0000\tcherry-pick: add b\n";
+    has(
+        store,
+        ".git/objects/22/8c1e7fc028b51a61ed40dbc7546c6a4c9a75e6",
+        tree,
+    ) && has(
+        store,
+        ".git/objects/6f/78c7f745e65aa003201d6ab87f9d215ba50ed2",
+        commit,
+    ) && has(
+        store,
+        ".git/refs/heads/master",
+        b"6f78c7f745e65aa003201d6ab87f9d215ba50ed2\n",
+    ) && has(store, ".git/logs/refs/heads/master", line)
+        && has(store, ".git/logs/HEAD", line)
+        && has(store, ".git/index", PICKED_INDEX)
+        && has(store, ".git/COMMIT_EDITMSG", b"add b\n")
+        && has(store, "b", b"")
+}
+
+// The ids and the index are those that git 2.39.5 makes of the same commits, and the logs those of `git cherry-pick`.
+#[test]
+fn a_clean_pick_is_done(rt: HostRuntime) -> Result<(), Fail> {
+    let alloc = rt.alloc();
+    let words = words_of(alloc, ADD_B)?;
+    let env = environment(alloc, "Sam", "sam@x")?;
+    let before = files(alloc, &[])?;
+    let mut store = store(alloc, &before)?;
+    let mut spawner = QuietSpawner::new(Vec::new(alloc));
+    let mut clock = ListClock::new(vec![in alloc; 1990, 2000]?);
+    let mut out = QuietSink::new(alloc)?;
+    let status = seq_top::run(
+        alloc,
+        &words,
+        &env,
+        &mut store,
+        &mut spawner,
+        &mut clock,
+        &mut out,
+    );
+    assert_eq!(rt; status, 0);
+    assert!(rt; out.bytes() == b"done 6f78c7f745e65aa003201d6ab87f9d215ba50ed2\n".as_slice());
+    assert!(rt; is_picked(&store));
+    // All else is as it was: seven files are new, the branch and the index are written anew.
+    assert_eq!(rt; store.content().len(), before.len() + 6);
     Ok(())
 }

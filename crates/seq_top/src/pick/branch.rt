@@ -1,6 +1,6 @@
 //! The branch that HEAD is on, and the commit that it is at.
 
-ghost use Rattle.std.specs.Prelude.{◌≡◌, ◌==◌, IfOk, IfSome, IsErrOf, not, true};
+ghost use Rattle.std.specs.Prelude.{◌≡◌, ◌==◌, IfOk, IfSome, IsErrOf, not, true, ◌≤◌};
 ghost use Rattle.std.specs.List.{list_all};
 ghost use Rattle.std.specs.Option.{option_map};
 ghost use Rattle.ref_text.specs.Refs.{ref_path};
@@ -102,6 +102,7 @@ pub fn tip_at<S: Store>(alloc: Global, branch: &[u8], store: &mut S) -> Result<I
     requires { is_ref_name_of branch.now ≡ true }
     ensures gives { S.told → Gives (λ id. id) result (tip_of (S.content store.old) branch.now) }
     ensures same { S.told → S.content store.new ≡ S.content store.old }
+    ensures blocked { S.blocked store.old ≤ S.blocked store.new }
     ensures cause { HasHaltCause result (S.faults store.old) (S.faults store.new) }
 {
     let path = path_of(alloc, branch)?;

@@ -1,6 +1,6 @@
 //! Whether index and files are as HEAD has them.
 
-ghost use Rattle.std.specs.Prelude.{◌≡◌, ◌++◌, ◌∷◌, [], Err, IfOk, Some};
+ghost use Rattle.std.specs.Prelude.{◌≡◌, ◌++◌, ◌∷◌, [], Err, IfOk, Some, ◌≤◌};
 ghost use Rattle.std.specs.Option.{option_map, option_to_list};
 ghost use Rattle.index_file.specs.Entries.{IsInOrder};
 ghost use Rattle.seq_base.specs.PathMaps.{is_less};
@@ -30,6 +30,7 @@ fn changed_file<S: Store>(
     requires { IsInOrder index.now }
     ensures found { S.told → IfOk result (λ found. found ≡ changed (S.content store.old) index.now) }
     ensures same { S.told → S.content store.new ≡ S.content store.old }
+    ensures blocked { S.blocked store.old ≤ S.blocked store.new }
     ensures cause { HasHaltCause result (S.faults store.old) (S.faults store.new) }
     ensures not_denied { (denial : Denial) → result ≡ Err (Halt.Denied denial) → ⊥ }
 {
@@ -104,6 +105,7 @@ fn refuse_dirty<S: Store>(
     requires { IsInOrder index.now }
     ensures gives { S.told → Gives (λ x. x) result (is_clean (S.content store.old) index.now head.now) }
     ensures same { S.told → S.content store.new ≡ S.content store.old }
+    ensures blocked { S.blocked store.old ≤ S.blocked store.new }
     ensures cause { HasHaltCause result (S.faults store.old) (S.faults store.new) }
 {
     let changed = changed_file(alloc, index, store)?;
@@ -128,6 +130,7 @@ pub fn clean_map<S: Store>(
     requires { IsInOrder index.now }
     ensures gives { S.told → Gives (λ m. m) result (clean_map_of (S.content store.old) head index.now) }
     ensures same { S.told → S.content store.new ≡ S.content store.old }
+    ensures blocked { S.blocked store.old ≤ S.blocked store.new }
     ensures cause { HasHaltCause result (S.faults store.old) (S.faults store.new) }
 {
     let ours = commit_map(alloc, head, store)?;

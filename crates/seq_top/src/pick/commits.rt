@@ -1,6 +1,7 @@
 //! Commits and maps of trees, by their ids.
 
-ghost use Rattle.std.specs.Prelude.{◌≡◌, IsErrOf};
+ghost use Rattle.std.specs.Prelude.{◌≡◌, IfOk, IsErrOf, ◌≤◌};
+ghost use Rattle.object_text.specs.Commits.{IsCommitValue};
 ghost use Rattle.seq_model.specs.Commits.{is_commit_kind, commit_in as commit_in_object, commit_spelled, commit_map as commit_map_of, commit_named, map_named, object_named, only_parent as only_parent_of};
 ghost use Rattle.seq_top.specs.Halts.{Gives, HasHaltCause, halt_of_commit, halt_of_object, halt_of_tree};
 
@@ -45,6 +46,7 @@ fn object_halt(id: Id, fault: ObjectFault) -> Halt
 fn object<S: Store>(alloc: Global, id: Id, store: &mut S) -> Result<Object, Halt>
     ensures gives { S.told → Gives (λ o. o) result (object_named (S.content store.old) id) }
     ensures same { S.told → S.content store.new ≡ S.content store.old }
+    ensures blocked { S.blocked store.old ≤ S.blocked store.new }
     ensures cause { HasHaltCause result (S.faults store.old) (S.faults store.new) }
 {
     match objects::get(alloc, store, id) {
@@ -78,6 +80,7 @@ fn commit_halt(id: Id, fault: TextFault) -> Halt
 #[tactic(auto, using(crate::proofs::Objects::few_parents, crate::proofs::Objects::commit_fault))]
 fn spelled_commit(alloc: Global, id: Id, content: &[u8]) -> Result<Commit, Halt>
     ensures gives { Gives (λ c. c) result (commit_spelled id content.now) }
+    ensures value { IfOk result IsCommitValue }
     ensures no_fault { IsErrOf result Halt.Fault → ⊥ }
 {
     match parse_commit(alloc, content) {
@@ -90,6 +93,7 @@ fn spelled_commit(alloc: Global, id: Id, content: &[u8]) -> Result<Commit, Halt>
 #[tactic(auto, unfolding(seq_model::specs::Commits::commit_in))]
 fn commit_in(alloc: Global, id: Id, object: &Object) -> Result<Commit, Halt>
     ensures gives { Gives (λ c. c) result (commit_in_object id object.now) }
+    ensures value { IfOk result IsCommitValue }
     ensures no_fault { IsErrOf result Halt.Fault → ⊥ }
 {
     if !is_commit(object.kind) {
@@ -102,7 +106,9 @@ fn commit_in(alloc: Global, id: Id, object: &Object) -> Result<Commit, Halt>
 #[tactic(auto, unfolding(seq_model::specs::Commits::commit_named))]
 pub fn commit<S: Store>(alloc: Global, id: Id, store: &mut S) -> Result<Commit, Halt>
     ensures gives { S.told → Gives (λ c. c) result (commit_named (S.content store.old) id) }
+    ensures value { IfOk result IsCommitValue }
     ensures same { S.told → S.content store.new ≡ S.content store.old }
+    ensures blocked { S.blocked store.old ≤ S.blocked store.new }
     ensures cause { HasHaltCause result (S.faults store.old) (S.faults store.new) }
 {
     let object = object(alloc, id, store)?;
@@ -137,6 +143,7 @@ fn tree_halt(fault: TreeFault) -> Halt
 pub fn map<S: Store>(alloc: Global, tree: Id, store: &mut S) -> Result<PathMap, Halt>
     ensures gives { S.told → Gives (λ m. m) result (map_named (S.content store.old) tree) }
     ensures same { S.told → S.content store.new ≡ S.content store.old }
+    ensures blocked { S.blocked store.old ≤ S.blocked store.new }
     ensures cause { HasHaltCause result (S.faults store.old) (S.faults store.new) }
 {
     match read_map(alloc, store, tree) {
@@ -150,6 +157,7 @@ pub fn map<S: Store>(alloc: Global, tree: Id, store: &mut S) -> Result<PathMap, 
 pub fn commit_map<S: Store>(alloc: Global, id: Id, store: &mut S) -> Result<PathMap, Halt>
     ensures gives { S.told → Gives (λ m. m) result (commit_map_of (S.content store.old) id) }
     ensures same { S.told → S.content store.new ≡ S.content store.old }
+    ensures blocked { S.blocked store.old ≤ S.blocked store.new }
     ensures cause { HasHaltCause result (S.faults store.old) (S.faults store.new) }
 {
     let commit = commit(alloc, id, store)?;

@@ -1,6 +1,6 @@
 //! Who commits.
 
-ghost use Rattle.std.specs.Prelude.{◌≡◌, IsErrOf};
+ghost use Rattle.std.specs.Prelude.{◌≡◌, IfOk, IsErrOf, true};
 ghost use Rattle.std.specs.Option.{option_map};
 ghost use Rattle.std.specs.List.{list_all};
 ghost use Rattle.ident_text.specs.Idents.{is_ident_byte as may_name};
@@ -47,6 +47,7 @@ fn is_identity(text: &[u8]) -> bool
 #[tactic(auto, unfolding(seq_model::specs::Committers::identity_in))]
 fn identity(alloc: Global, vars: &[(Bytes, Bytes)], name: &[u8]) -> Result<Bytes, Halt>
     ensures gives { Gives (λ text. text) result (identity_in vars.now name.now) }
+    ensures fits { IfOk result (λ text. list_all may_name text ≡ true) }
     ensures no_fault { IsErrOf result Halt.Fault → ⊥ }
 {
     let Some(text) = variable(vars, name) else {
@@ -62,6 +63,8 @@ fn identity(alloc: Global, vars: &[(Bytes, Bytes)], name: &[u8]) -> Result<Bytes
 #[tactic(auto, unfolding(seq_model::specs::Committers::committer_in))]
 pub fn committer(alloc: Global, vars: &[(Bytes, Bytes)]) -> Result<Committer, Halt>
     ensures gives { Gives (λ committer. committer) result (committer_in vars.now) }
+    ensures name { IfOk result (λ committer. list_all may_name committer.name ≡ true) }
+    ensures email { IfOk result (λ committer. list_all may_name committer.email ≡ true) }
     ensures no_fault { IsErrOf result Halt.Fault → ⊥ }
 {
     let name = identity(alloc, vars, b"GIT_COMMITTER_NAME")?;

@@ -1,6 +1,6 @@
 //! The index.
 
-ghost use Rattle.std.specs.Prelude.{◌≡◌, IfOk, IsErrOf, not};
+ghost use Rattle.std.specs.Prelude.{◌≡◌, IfOk, IsErrOf, not, ◌≤◌};
 ghost use Rattle.std.specs.List.{find};
 ghost use Rattle.std.specs.Option.{option_map};
 ghost use Rattle.index_file.specs.Entries.{IsInOrder};
@@ -19,7 +19,7 @@ use seq_outside::Store;
 use std::alloc::Global;
 
 /// The most entries that an index may have.
-const INDEX_LIMIT: usize = 1_048_576;
+pub const INDEX_LIMIT: usize = 1_048_576;
 
 /// The entries that the text of an index spells.
 fn entries_in(alloc: Global, text: &[u8]) -> Result<Vec<IndexEntry>, Halt>
@@ -39,6 +39,7 @@ fn entries_of<S: Store>(alloc: Global, store: &mut S) -> Result<Vec<IndexEntry>,
     ensures gives { S.told → Gives (λ v. v.items) result (or_bad_index (index_at (S.content store.old))) }
     ensures order { IfOk result (λ v. IsInOrder v.items) }
     ensures same { S.told → S.content store.new ≡ S.content store.old }
+    ensures blocked { S.blocked store.old ≤ S.blocked store.new }
     ensures cause { HasHaltCause result (S.faults store.old) (S.faults store.new) }
 {
     match store.get(alloc, b".git/index")? {
@@ -53,6 +54,7 @@ pub fn index<S: Store>(alloc: Global, store: &mut S) -> Result<Vec<IndexEntry>, 
     ensures gives { S.told → Gives (λ v. v.items) result (index_named (S.content store.old)) }
     ensures order { IfOk result (λ v. IsInOrder v.items) }
     ensures same { S.told → S.content store.new ≡ S.content store.old }
+    ensures blocked { S.blocked store.old ≤ S.blocked store.new }
     ensures cause { HasHaltCause result (S.faults store.old) (S.faults store.new) }
 {
     let entries = entries_of(alloc, store)?;

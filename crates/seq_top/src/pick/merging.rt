@@ -1,9 +1,11 @@
 //! The merge of a commit's change into HEAD's map.
 
-ghost use Rattle.std.specs.Prelude.{◌≡◌, IsErrOf};
+ghost use Rattle.std.specs.Prelude.{◌≡◌, IfOk, IsErrOf, ◌≤◌};
 ghost use Rattle.index_file.specs.Entries.{IsInOrder};
-ghost use Rattle.seq_model.specs.Pick.{conflict_free, merges_into as merges_into_of, merges_onto, pick_merges as pick_merges_of};
+ghost use Rattle.object_text.specs.Commits.{IsCommitValue};
+ghost use Rattle.seq_model.specs.Pick.{merged as merged_of, merged_into as merged_into_of, merged_onto as merged_onto_of, merging_of};
 ghost use Rattle.seq_top.specs.Halts.{Gives, HasHaltCause};
+ghost use Rattle.seq_top.specs.Merging.{merging_is};
 
 use crate::halt::{Halt, refused};
 use crate::pick::clean::clean_map;
@@ -15,75 +17,96 @@ use seq_base::{Bytes, Id, PathMap};
 use seq_model::Refusal;
 use seq_outside::Store;
 use std::alloc::Global;
-use tree_merge::{conflict, plan};
+use tree_merge::{conflict, merged_map, plan};
 
-/// Refuses where a path conflicts.
-#[tactic(auto, unfolding(seq_model::specs::Pick::conflict_free))]
-fn refuse_conflict(
-    alloc: Global,
-    base: &PathMap,
-    ours: &PathMap,
-    theirs: &PathMap,
-) -> Result<(), Halt>
-    ensures gives { Gives (λ x. x) result (conflict_free base.now ours.now theirs.now) }
+/// A pick as it is merged.
+#[derive(Drop)]
+pub struct Merging {
+    /// The index that is found.
+    pub index: Vec<IndexEntry>,
+    /// The commit that is picked.
+    pub commit: Commit,
+    /// HEAD's map.
+    pub ours: PathMap,
+    /// The map that the pick makes of it.
+    pub map: PathMap,
+}
+
+/// What a merge leaves, or the refusal of the first path that conflicts.
+#[tactic(auto, unfolding(seq_model::specs::Pick::merged))]
+fn merged(alloc: Global, base: &PathMap, ours: &PathMap, theirs: &PathMap) -> Result<PathMap, Halt>
+    ensures gives { Gives (λ m. m) result (merged_of base.now ours.now theirs.now) }
     ensures no_fault { IsErrOf result Halt.Fault → ⊥ }
 {
     let plan = plan(alloc, base, ours, theirs)?;
-    match conflict(plan.paths.as_slice()) {
-        Some(row) => {
-            let path = Bytes::from_vec(row.path.bytes().to_vec(alloc)?);
-            Err(refused(Refusal::Conflict { path }))
-        }
-        None => Ok(()),
+    if let Some(row) = conflict(plan.paths.as_slice()) {
+        let path = Bytes::from_vec(row.path.bytes().to_vec(alloc)?);
+        return Err(refused(Refusal::Conflict { path }));
     }
+    let map = merged_map(alloc, base, ours, theirs)?;
+    Ok(map)
 }
 
-/// Refuses where the change from a parent to a tree does not merge into a map.
-#[tactic(auto, unfolding(seq_model::specs::Pick::merges_onto))]
-fn merge_onto<S: Store>(
+/// What the change from a parent to a tree makes of a map.
+#[tactic(auto, unfolding(seq_model::specs::Pick::merged_onto))]
+fn merged_onto<S: Store>(
     alloc: Global,
     ours: &PathMap,
     parent: Id,
     tree: Id,
     store: &mut S,
-) -> Result<(), Halt>
-    ensures gives { S.told → Gives (λ x. x) result (merges_onto (S.content store.old) ours.now parent tree) }
+) -> Result<PathMap, Halt>
+    ensures gives { S.told → Gives (λ m. m) result (merged_onto_of (S.content store.old) ours.now parent tree) }
     ensures same { S.told → S.content store.new ≡ S.content store.old }
+    ensures blocked { S.blocked store.old ≤ S.blocked store.new }
     ensures cause { HasHaltCause result (S.faults store.old) (S.faults store.new) }
 {
     let base = commit_map(alloc, parent, store)?;
     let theirs = map(alloc, tree, store)?;
-    refuse_conflict(alloc, &base, ours, &theirs)
+    merged(alloc, &base, ours, &theirs)
 }
 
-/// Refuses where the commit's change does not merge into HEAD.
-#[tactic(auto, unfolding(seq_model::specs::Pick::merges_into))]
-fn merge_into<S: Store>(
+/// A commit merged into HEAD.
+#[tactic(auto, unfolding(seq_model::specs::Pick::merged_into))]
+fn merged_into<S: Store>(
     alloc: Global,
     head: Id,
-    index: &[IndexEntry],
-    commit: &Commit,
+    index: Vec<IndexEntry>,
+    commit: Commit,
     store: &mut S,
-) -> Result<(), Halt>
-    requires { IsInOrder index.now }
-    ensures gives { S.told → Gives (λ x. x) result (merges_into_of (S.content store.old) head index.now commit.now) }
+) -> Result<Merging, Halt>
+    requires order { IsInOrder index.items }
+    requires value { IsCommitValue commit }
+    ensures gives { S.told → Gives merging_is result (merged_into_of (S.content store.old) head index.items commit) }
+    ensures order { IfOk result (λ m. IsInOrder m.index.items) }
+    ensures value { IfOk result (λ m. IsCommitValue m.commit) }
     ensures same { S.told → S.content store.new ≡ S.content store.old }
+    ensures blocked { S.blocked store.old ≤ S.blocked store.new }
     ensures cause { HasHaltCause result (S.faults store.old) (S.faults store.new) }
 {
-    let parent = only_parent(commit)?;
-    refuse_unmerged(alloc, index)?;
-    let ours = clean_map(alloc, head, index, store)?;
-    merge_onto(alloc, &ours, parent, commit.tree, store)
+    let parent = only_parent(&commit)?;
+    refuse_unmerged(alloc, &index)?;
+    let ours = clean_map(alloc, head, &index, store)?;
+    let map = merged_onto(alloc, &ours, parent, commit.tree, store)?;
+    Ok(Merging {
+        index,
+        commit,
+        ours,
+        map,
+    })
 }
 
-/// Refuses where the pick of a commit does not merge into HEAD.
-#[tactic(auto, unfolding(seq_model::specs::Pick::pick_merges))]
-pub fn pick_merges<S: Store>(alloc: Global, head: Id, pick: Id, store: &mut S) -> Result<(), Halt>
-    ensures gives { S.told → Gives (λ x. x) result (pick_merges_of (S.content store.old) head pick) }
+/// The commit of an id merged into HEAD.
+#[tactic(auto, unfolding(seq_model::specs::Pick::merging_of))]
+pub fn merge<S: Store>(alloc: Global, head: Id, pick: Id, store: &mut S) -> Result<Merging, Halt>
+    ensures gives { S.told → Gives merging_is result (merging_of (S.content store.old) head pick) }
+    ensures order { IfOk result (λ m. IsInOrder m.index.items) }
+    ensures value { IfOk result (λ m. IsCommitValue m.commit) }
     ensures same { S.told → S.content store.new ≡ S.content store.old }
+    ensures blocked { S.blocked store.old ≤ S.blocked store.new }
     ensures cause { HasHaltCause result (S.faults store.old) (S.faults store.new) }
 {
     let entries = index(alloc, store)?;
     let commit = commit(alloc, pick, store)?;
-    merge_into(alloc, head, &entries, &commit, store)
+    merged_into(alloc, head, entries, commit, store)
 }

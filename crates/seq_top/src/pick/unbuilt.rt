@@ -1,6 +1,6 @@
 //! What stands in a repository that a pick does not take yet.
 
-ghost use Rattle.std.specs.Prelude.{◌≡◌, map};
+ghost use Rattle.std.specs.Prelude.{◌≡◌, map, ◌≤◌};
 ghost use Rattle.std.specs.List.{AllByRecursion};
 ghost use Rattle.seq_base.specs.StorePaths.{IsStorePath};
 ghost use Rattle.seq_model.specs.Unbuilt.{lacks, lacks_all, lacks_below, only_built, untaken_paths};
@@ -17,6 +17,7 @@ fn refuse_below<S: Store>(alloc: Global, path: &[u8], store: &mut S) -> Result<(
     requires { IsStorePath path.now }
     ensures gives { S.told → Gives (λ x. x) result (lacks_below (S.content store.old) path.now) }
     ensures same { S.told → S.content store.new ≡ S.content store.old }
+    ensures blocked { S.blocked store.old ≤ S.blocked store.new }
     ensures cause { HasHaltCause result (S.faults store.old) (S.faults store.new) }
 {
     let below = store.list(alloc, path)?;
@@ -33,6 +34,7 @@ fn refuse_at<S: Store>(alloc: Global, path: &[u8], store: &mut S) -> Result<(), 
     requires { IsStorePath path.now }
     ensures gives { S.told → Gives (λ x. x) result (lacks (S.content store.old) path.now) }
     ensures same { S.told → S.content store.new ≡ S.content store.old }
+    ensures blocked { S.blocked store.old ≤ S.blocked store.new }
     ensures cause { HasHaltCause result (S.faults store.old) (S.faults store.new) }
 {
     if let Some(_text) = store.get(alloc, path)? {
@@ -47,6 +49,7 @@ fn refuse_any<S: Store>(alloc: Global, paths: &[&[u8]], store: &mut S) -> Result
     requires { AllByRecursion (λ path. IsStorePath path.now) paths.now }
     ensures gives { S.told → Gives (λ x. x) result (lacks_all (S.content store.old) (map (λ path. path.now) paths.now)) }
     ensures same { S.told → S.content store.new ≡ S.content store.old }
+    ensures blocked { S.blocked store.old ≤ S.blocked store.new }
     ensures cause { HasHaltCause result (S.faults store.old) (S.faults store.new) }
 {
     let mut rest = paths;
@@ -61,6 +64,7 @@ fn refuse_any<S: Store>(alloc: Global, paths: &[&[u8]], store: &mut S) -> Result
 fn refuse_untaken<S: Store>(alloc: Global, store: &mut S) -> Result<(), Halt>
     ensures gives { S.told → Gives (λ x. x) result (lacks_all (S.content store.old) untaken_paths) }
     ensures same { S.told → S.content store.new ≡ S.content store.old }
+    ensures blocked { S.blocked store.old ≤ S.blocked store.new }
     ensures cause { HasHaltCause result (S.faults store.old) (S.faults store.new) }
 {
     let paths: [&[u8]; 8] = [
@@ -81,6 +85,7 @@ fn refuse_untaken<S: Store>(alloc: Global, store: &mut S) -> Result<(), Halt>
 pub fn refuse_unbuilt<S: Store>(alloc: Global, store: &mut S) -> Result<(), Halt>
     ensures gives { S.told → Gives (λ x. x) result (only_built (S.content store.old)) }
     ensures same { S.told → S.content store.new ≡ S.content store.old }
+    ensures blocked { S.blocked store.old ≤ S.blocked store.new }
     ensures cause { HasHaltCause result (S.faults store.old) (S.faults store.new) }
 {
     refuse_untaken(alloc, store)?;
