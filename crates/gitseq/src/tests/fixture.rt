@@ -1,5 +1,5 @@
-//! A repository that Git made, as it lies in its files, with objects uncompressed: `base` has the file `a`; `add b`, `add c` and `a is 3`
-//! stand on it, and `a is 2` on `add c`.
+//! A repository that Git made, as it lies in its files, with objects uncompressed: `base` has the file `a`; `add b`, `add c`, `add d/n` and
+//! `a is 3` stand on it, and `a is 2` on `add c`.
 
 use seq_base::Bytes;
 use seq_memory::{QuietStore, is_content};
@@ -9,6 +9,8 @@ use std::test::Fail;
 pub const BASE: &str = "707c9d7e85ee1dadefb4126526c528e4e8a093f2";
 
 pub const ADD_B: &str = "063e68e4d0d70bddbb9e204763cae96183b574ca";
+
+pub const ADD_D_N: &str = "0f34987bdc572e2137f86a58203ff5a631936cce";
 
 pub const A_IS_3: &str = "c1a95a90e3716da8841d8e5b5f15609729b31bf1";
 

@@ -3,7 +3,7 @@
 ghost use Rattle.std.specs.Prelude.{IfOk};
 ghost use Rattle.seq_outside.specs.Env.{IsZone};
 
-use crate::tests::fixture::{A_IS_3, ADD_B, BASE, INDEX_OF_2, PICKED_INDEX, files, store};
+use crate::tests::fixture::{A_IS_3, ADD_B, ADD_D_N, BASE, INDEX_OF_2, PICKED_INDEX, files, store};
 use seq_base::Bytes;
 use seq_memory::{ListClock, QuietSink, QuietSpawner, QuietStore};
 use seq_outside::{Env, Variables};
@@ -219,30 +219,92 @@ fn is_picked(store: &QuietStore) -> bool {
         && has(store, "b", b"")
 }
 
+/// Picks the commit of a word by Sam at the moment 2000, where the clock tells 1990 first. The exit status.
+fn pick(
+    alloc: Global,
+    word: &str,
+    store: &mut QuietStore,
+    out: &mut QuietSink,
+) -> Result<u8, Fail> {
+    let words = words_of(alloc, word)?;
+    let env = environment(alloc, "Sam", "sam@x")?;
+    let mut spawner = QuietSpawner::new(Vec::new(alloc));
+    let mut clock = ListClock::new(vec![in alloc; 1990, 2000]?);
+    Ok(seq_top::run(alloc, &words, &env, store, &mut spawner, &mut clock, out))
+}
+
 // The ids and the index are those that git 2.39.5 makes of the same commits, and the logs those of `git cherry-pick`.
 #[test]
 fn a_clean_pick_is_done(rt: HostRuntime) -> Result<(), Fail> {
     let alloc = rt.alloc();
-    let words = words_of(alloc, ADD_B)?;
-    let env = environment(alloc, "Sam", "sam@x")?;
     let before = files(alloc, &[])?;
     let mut store = store(alloc, &before)?;
-    let mut spawner = QuietSpawner::new(Vec::new(alloc));
-    let mut clock = ListClock::new(vec![in alloc; 1990, 2000]?);
     let mut out = QuietSink::new(alloc)?;
-    let status = seq_top::run(
-        alloc,
-        &words,
-        &env,
-        &mut store,
-        &mut spawner,
-        &mut clock,
-        &mut out,
-    );
-    assert_eq!(rt; status, 0);
+    assert_eq!(rt; pick(alloc, ADD_B, &mut store, &mut out)?, 0);
     assert!(rt; out.bytes() == b"done 6f78c7f745e65aa003201d6ab87f9d215ba50ed2\n".as_slice());
     assert!(rt; is_picked(&store));
-    // All else is as it was: seven files are new, the branch and the index are written anew.
+    // Six files are new; the branch and the index are written anew.
     assert_eq!(rt; store.content().len(), before.len() + 6);
+    Ok(())
+}
+
+// The ids are those of `git mktree` and `git commit-tree`. Picked again, the commit changes nothing.
+#[test]
+fn a_folder_is_picked(rt: HostRuntime) -> Result<(), Fail> {
+    let alloc = rt.alloc();
+    let mut store = store(alloc, &files(alloc, &[])?)?;
+    let mut out = QuietSink::new(alloc)?;
+    assert_eq!(rt; pick(alloc, ADD_D_N, &mut store, &mut out)?, 0);
+    assert_eq!(rt; pick(alloc, ADD_D_N, &mut store, &mut out)?, 3);
+    assert!(rt;
+        out.bytes()
+            == b"done 028f5f2b3668b8de5916179aa4e11230ed2a0eee\nrefused not-built\n".as_slice()
+    );
+    let tree =
+        b"tree 86\0100644 a\0\xce\x016%\x03\x0b\xa8\xdb\xa9\x06\xf7V\x96\x7f\x9e\x9c\xa3\x94FJ100644 c\0\xce\x016%\x03\x0b\xa8\xdb\xa9\x06\xf7V\x96\x7f\x9e\x9c\xa3\x94FJ40000 d\0\x12\xdf7\xab;a\xbd\x87\x9a\xfen\xc3\x82Y\n\xfbA\xb0\xda\xaa";
+    assert!(rt;
+        has(
+            &store,
+            ".git/objects/25/895b3c607793e06f4abfe0a5fdf38b473f2ad2",
+            tree
+        )
+    );
+    assert!(rt; has(&store, "d/n", b"n\n"));
+    Ok(())
+}
+
+// What `git cherry-pick` would overwrite: a file, a folder with a file, and a file in a folder's place.
+#[test]
+fn an_untracked_file_is_not_overwritten(rt: HostRuntime) -> Result<(), Fail> {
+    let alloc = rt.alloc();
+    let refused = "refused would-overwrite b\n";
+    assert!(rt; prints(alloc, &[("b", b"mine\n")], ADD_B, refused)?);
+    assert!(rt; prints(alloc, &[("b/c", b"mine\n")], ADD_B, refused)?);
+    assert!(rt;
+        prints(
+            alloc,
+            &[("d", b"mine\n")],
+            ADD_D_N,
+            "refused would-overwrite d/n\n"
+        )?
+    );
+    Ok(())
+}
+
+// The tree's id is the SHA-1 of its text. `git mktree` takes the name, and `git fsck` complains of it.
+#[test]
+fn a_tree_that_names_dot_git_is_bad(rt: HostRuntime) -> Result<(), Fail> {
+    let alloc = rt.alloc();
+    let tree = (
+        ".git/objects/b2/5cd6bd29d1cda1e58a3cc59be11d55c5785514",
+        b"tree 32\0100644 .GIT\0\xce\x016%\x03\x0b\xa8\xdb\xa9\x06\xf7V\x96\x7f\x9e\x9c\xa3\x94FJ".as_slice(),
+    );
+    let commit = (
+        ".git/objects/3e/54bf2175eccd01e35bb95a5da36553f637f522",
+        b"commit 167\0tree b25cd6bd29d1cda1e58a3cc59be11d55c5785514\nparent 707c9d7e85ee1dadefb4126526c528e4e8a093f2\nauthor Ann <ann@x> 1000 +0000\ncommitter Ann <ann@x> 1000 +0000\n\nadd .GIT\n".as_slice(),
+    );
+    let word = "3e54bf2175eccd01e35bb95a5da36553f637f522";
+    let refused = "refused bad-object b25cd6bd29d1cda1e58a3cc59be11d55c5785514\n";
+    assert!(rt; prints(alloc, &[tree, commit], word, refused)?);
     Ok(())
 }
