@@ -9,10 +9,10 @@ use Rattle.std.proofs.Math.Seq.{take-suc, take-length}
 use Rattle.attr_rules.specs.declared.attribute.MergeAttr.{MergeAttr}
 use Rattle.attr_rules.specs.declared.macros.Macro.{Macro}
 use Rattle.attr_rules.specs.declared.macros.Known.{Known}
-use Rattle.attr_rules.specs.Rules.{is_blank}
 use Rattle.attr_rules.specs.Attributes.{own, is_set, last_in, last_said, said}
 use Rattle.attr_rules.specs.Known.{told, known_of}
 use Rattle.attr_rules.proofs.Parts.{found_first}
+use Rattle.seq_base.specs.Blanks.{is_blank}
 
 pub or_none : {Y : Type 0} (o : Option Y) → option_or o None ≡ o
 or_none None = refl

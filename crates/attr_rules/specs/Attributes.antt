@@ -7,7 +7,8 @@ use Rattle.attr_rules.specs.declared.attribute.MergeAttr.{MergeAttr}
 use Rattle.attr_rules.specs.declared.attribute.MergeAttr.TheVariants.{Unspecified, Set, Unset, Named}
 use Rattle.attr_rules.specs.declared.rules.Line.{Line}
 use Rattle.attr_rules.specs.declared.macros.Macro.{Macro}
-use Rattle.attr_rules.specs.Rules.{RuleFile, is_blank}
+use Rattle.attr_rules.specs.Rules.{RuleFile}
+use Rattle.seq_base.specs.Blanks.{is_blank}
 
 abbrev pub is_equals : ℕ → Bool
 is_equals b = b == 61

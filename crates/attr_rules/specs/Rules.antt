@@ -2,6 +2,7 @@
 use Rattle.std.specs.Prelude.{ℕ, ◌-◌, ◌==◌, Bool, ◌||◌, if◌then◌else◌, List, [], ◌∷◌, Option, Some, None, length, take, slice_index}
 use Rattle.std.specs.List.{slice_split, filter_map, before_first, after_first}
 use Rattle.attr_rules.specs.declared.rules.Line.{Line}
+use Rattle.seq_base.specs.Blanks.{is_blank}
 
 -- the rules of a file: its folder, and its lines
 pub record RuleFile : Type 0 where
@@ -10,9 +11,6 @@ pub record RuleFile : Type 0 where
 
 abbrev pub is_feed : ℕ → Bool
 is_feed b = b == 10
-
-abbrev pub is_blank : ℕ → Bool
-is_blank b = (b == 32) || (b == 9)
 
 -- without the CR at the end
 abbrev pub without_return : List ℕ → List ℕ

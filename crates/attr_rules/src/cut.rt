@@ -2,13 +2,10 @@
 
 ghost use Rattle.std.specs.Prelude.{◌≡◌, ◌<◌, ◌≤◌, length, position, IfSome};
 ghost use Rattle.std.specs.List.{before_first, after_first};
-ghost use Rattle.attr_rules.specs.Rules.{is_feed, is_blank, without_blanks, without_return};
+ghost use Rattle.attr_rules.specs.Rules.{is_feed, without_blanks, without_return};
+ghost use Rattle.seq_base.specs.Blanks.{is_blank};
 
-pub fn is_blank(byte: u8) -> bool
-    ensures { result ≡ is_blank byte }
-{
-    byte == b' ' || byte == b'\t'
-}
+use seq_base::is_blank;
 
 /// What stands before the first line feed, and what stands behind it; all, and nothing, where there is none.
 pub fn first_line(text: &[u8]) -> (&[u8], &[u8])

@@ -3,9 +3,10 @@ use Rattle.std.proofs.Common.{◌≡◌, ℕ, Bool, true, false, eqb, not, ◌&&
 use Rattle.std.specs.Prelude.{is_some}
 use Rattle.std.proofs.lemmas.Bool.{eqb-true}
 use Rattle.grammar.proofs.Passing.{and_true}
-use Rattle.config_text.specs.Bytes.{is_blank, is_comment_mark, is_letter, escaped}
+use Rattle.config_text.specs.Bytes.{is_comment_mark, is_letter, escaped}
 use Rattle.config_text.specs.Values.{is_itself}
 use Rattle.config_text.specs.Reading.{is_end}
+use Rattle.seq_base.specs.Blanks.{is_blank}
 
 pub not_true : (a : Bool) → not a ≡ true → a ≡ false
 not_true true e = absurd cc

@@ -8,7 +8,7 @@ use Rattle.grammar.proofs.Passing.{and_true}
 use Rattle.config_text.specs.declared.config.Setting.{Setting}
 use Rattle.config_text.specs.declared.place.Place.{Place}
 use Rattle.config_text.specs.declared.place.Place.TheVariants.{Start, Indented, BehindSection, BehindHeader, Key, BehindKey, Value, ValueEscape, Quoted, QuotedEscape, Comment}
-use Rattle.config_text.specs.Bytes.{is_blank, is_comment_mark, is_in_line, is_letter, is_key_byte, escaped, lower}
+use Rattle.config_text.specs.Bytes.{is_comment_mark, is_in_line, is_letter, is_key_byte, escaped, lower}
 use Rattle.config_text.specs.Values.{Part, Byte, Escape, Join, Quote, part_text, is_itself, is_value, marks, value_of}
 use Rattle.config_text.specs.Configs as text
 use Rattle.config_text.specs.Configs.{kept, assigned, Assignment, Header, Line, given, section_behind, sub_behind, sub_of}
@@ -17,6 +17,7 @@ use Rattle.config_text.proofs.Runs.{st}
 use Rattle.config_text.proofs.Dropped.{core}
 use Rattle.config_text.proofs.Gathered.{gathered, gathered_is}
 use Rattle.config_text.proofs.ByteTests.{not_true, letter, blank, mark, itself, escape}
+use Rattle.seq_base.specs.Blanks.{is_blank}
 
 -- ---- values
 

@@ -7,7 +7,7 @@ use Rattle.grammar.proofs.Passing.{and_true}
 use Rattle.config_text.specs.declared.config.Setting.{Setting}
 use Rattle.config_text.specs.declared.place.Place.{Place}
 use Rattle.config_text.specs.declared.place.Place.TheVariants.{Start, Indented, Section, BehindSection, Sub, SubEscape, BehindSub, BehindHeader}
-use Rattle.config_text.specs.Bytes.{is_blank, is_section_byte, is_sub_byte, is_plain_sub_byte, lower}
+use Rattle.config_text.specs.Bytes.{is_section_byte, is_sub_byte, is_plain_sub_byte, lower}
 use Rattle.config_text.specs.Configs as text
 use Rattle.config_text.specs.Configs.{SubPart, Plain, Quoted, sub_part_text, is_sub_part, sub_part_byte, Header, Assignment, Line, line_text, section_behind, sub_behind, sub_of, settings_of, are_lines, assigned}
 use Rattle.config_text.specs.Reading.{State, step}
@@ -15,6 +15,7 @@ use Rattle.config_text.proofs.Runs.{st}
 use Rattle.config_text.proofs.Dropped.{core}
 use Rattle.config_text.proofs.ByteTests.{not_true, blank}
 use Rattle.config_text.proofs.Reached.{stays, ComesTo, earlier, then_item, item_from, IsFront, front_start, front_indented, front_behind_header, blank_indented, blank_start, blank_behind_header, blank_behind_section}
+use Rattle.seq_base.specs.Blanks.{is_blank}
 
 abbrev pub then_sub : Option text.Sub → List ℕ → List ℕ
 then_sub None r = r

@@ -6,7 +6,7 @@ use Rattle.std.proofs.lemmas.Bool.{eqb-true}
 use Rattle.config_text.specs.declared.config.Setting.{Setting}
 use Rattle.config_text.specs.declared.place.Place.{Place}
 use Rattle.config_text.specs.declared.place.Place.TheVariants as place
-use Rattle.config_text.specs.Bytes.{is_blank, is_comment_mark, is_in_line, is_section_byte, is_key_byte, is_sub_byte, escaped, lower}
+use Rattle.config_text.specs.Bytes.{is_comment_mark, is_in_line, is_section_byte, is_key_byte, is_sub_byte, escaped, lower}
 use Rattle.config_text.specs.Values.{Part, Byte, Escape, Join, Quote, part_text, is_itself, is_value, marks}
 use Rattle.config_text.specs.Configs as text
 use Rattle.config_text.specs.Configs.{SubPart, Plain, Quoted, sub_part_text, is_sub_part, sub_part_byte, Header, Assignment, Line, line_text, section_behind, sub_behind, sub_of, settings_of, are_lines, assigned, kept, given}
@@ -17,6 +17,7 @@ use Rattle.config_text.proofs.Gathered.{gathered}
 use Rattle.config_text.proofs.ByteTests.{or_false}
 use Rattle.config_text.proofs.Reached.{then_item, in_value}
 use Rattle.config_text.proofs.ReachedLines.{then_sub, then_header}
+use Rattle.seq_base.specs.Blanks.{is_blank}
 
 pub both : (a b : Bool) → a ≡ true → b ≡ true → (a && b) ≡ true
 both a b p q = rw (p, q) refl

@@ -8,7 +8,7 @@ use Rattle.std.proofs.lemmas.List.{append-nil}
 use Rattle.config_text.specs.declared.config.Setting.{Setting}
 use Rattle.config_text.specs.declared.place.Place.{Place}
 use Rattle.config_text.specs.declared.place.Place.TheVariants as place
-use Rattle.config_text.specs.Bytes.{is_blank, is_section_byte, is_letter, is_key_byte, is_sub_byte, is_plain_sub_byte, escaped, lower}
+use Rattle.config_text.specs.Bytes.{is_section_byte, is_letter, is_key_byte, is_sub_byte, is_plain_sub_byte, escaped, lower}
 use Rattle.config_text.specs.Values.{marks}
 use Rattle.config_text.specs.Configs as text
 use Rattle.config_text.specs.Configs.{Plain, Quoted, is_sub_part, sub_part_byte, Header, Line, line_text, section_behind, sub_behind, sub_of, settings_of, are_lines, assigned, kept, given}
@@ -19,6 +19,7 @@ use Rattle.config_text.proofs.Gathered.{gathered_is}
 use Rattle.config_text.proofs.ReachedLines.{then_sub, then_header, spread}
 use Rattle.config_text.proofs.Reached.{then_item}
 use Rattle.config_text.proofs.Understood.{From, FromStart, FromEnd, FromValue, FromBehindKey, FromKey, FromItem, FromBehindHeader, FromSub, FromSubEscape, FromBehindSub, FromBehindSection, FromSection, FromFront, Back, both, not_false, none, cons, behind_byte, back_end, back_comment, back_value, back_quotes, back_escape}
+use Rattle.seq_base.specs.Blanks.{is_blank}
 
 some_name : (w : List ℕ) → eqb (length (lower w)) 0 ≡ false → eqb (length w) 0 ≡ false
 some_name [] e = e

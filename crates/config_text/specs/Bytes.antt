@@ -3,9 +3,6 @@ use Rattle.std.specs.Prelude.{ℕ, ◌==◌, Bool, not, ◌&&◌, ◌||◌, if�
 use Rattle.std.specs.Char.{is_ascii_alphabetic, is_ascii_alphanumeric, to_ascii_lowercase}
 use Rattle.std.specs.Str.{bytes_eq}
 
-abbrev pub is_blank : ℕ → Bool
-is_blank b = (b == 32) || (b == 9)
-
 -- what begins a comment
 abbrev pub is_comment_mark : ℕ → Bool
 is_comment_mark b = (b == 35) || (b == 59)

@@ -3,8 +3,9 @@
 use Rattle.std.specs.Prelude.{◌≡◌, ℕ, ◌==◌, Bool, true, false, not, ◌&&◌, if◌then◌else◌, List, [], ◌∷◌, ◌++◌, length, map, Option, Some, None, codes}
 use Rattle.std.specs.List.{list_all, flat_map}
 use Rattle.config_text.specs.declared.config.Setting.{Setting}
-use Rattle.config_text.specs.Bytes.{is_blank, is_comment_mark, is_in_line, is_section_byte, is_letter, is_key_byte, is_sub_byte, is_plain_sub_byte, lower, is_include}
+use Rattle.config_text.specs.Bytes.{is_comment_mark, is_in_line, is_section_byte, is_letter, is_key_byte, is_sub_byte, is_plain_sub_byte, lower, is_include}
 use Rattle.config_text.specs.Values.{Part, part_text, is_value, value_of}
+use Rattle.seq_base.specs.Blanks.{is_blank}
 
 -- ---- a header: `[section]` or `[section "sub"]`
 

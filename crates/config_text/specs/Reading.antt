@@ -4,8 +4,9 @@ use Rattle.std.specs.Char.{to_ascii_lowercase}
 use Rattle.config_text.specs.declared.config.Setting.{Setting}
 use Rattle.config_text.specs.declared.place.Place.{Place}
 use Rattle.config_text.specs.declared.place.Place.TheVariants.{Start, Indented, Section, BehindSection, Sub, SubEscape, BehindSub, BehindHeader, Key, BehindKey, Value, ValueEscape, Quoted, QuotedEscape, Comment}
-use Rattle.config_text.specs.Bytes.{is_blank, is_comment_mark, is_section_byte, is_letter, is_key_byte, is_sub_byte, escaped}
+use Rattle.config_text.specs.Bytes.{is_comment_mark, is_section_byte, is_letter, is_key_byte, is_sub_byte, escaped}
 use Rattle.config_text.specs.Configs.{kept}
+use Rattle.seq_base.specs.Blanks.{is_blank}
 
 pub record State : Type 0 where
   pub place : Place

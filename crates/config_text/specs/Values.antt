@@ -2,7 +2,8 @@
 -- lines, and double quotes, which have no byte of their own.
 use Rattle.std.specs.Prelude.{ℕ, ◌==◌, Bool, false, not, ◌&&◌, ◌||◌, if◌then◌else◌, List, [], ◌∷◌, map, is_some, unwrap_or}
 use Rattle.std.specs.List.{list_all}
-use Rattle.config_text.specs.Bytes.{is_blank, is_comment_mark, escaped}
+use Rattle.config_text.specs.Bytes.{is_comment_mark, escaped}
+use Rattle.seq_base.specs.Blanks.{is_blank}
 
 pub data Part : Type 0 where
   Byte : ℕ → Part

@@ -1,14 +1,8 @@
 //! Which bytes stand where.
 
 ghost use Rattle.std.specs.Prelude.{◌≡◌};
-ghost use Rattle.config_text.specs.Bytes.{is_blank, is_section_byte, is_key_byte, is_sub_byte, is_include, escaped};
+ghost use Rattle.config_text.specs.Bytes.{is_section_byte, is_key_byte, is_sub_byte, is_include, escaped};
 ghost use Rattle.config_text.specs.Reading.{is_end};
-
-pub fn is_blank(byte: u8) -> bool
-    ensures { result ≡ is_blank byte }
-{
-    byte == b' ' || byte == b'\t'
-}
 
 /// Whether a byte outside quotes ends a setting: the end of the line, or what begins a comment.
 pub fn is_end(byte: u8) -> bool

@@ -12,6 +12,3 @@ mod returns;
 pub use config::{Config, Setting};
 pub use fault::LineFault;
 pub use parse::parse_config;
-
-#[cfg(test)]
-mod tests;

@@ -6,12 +6,10 @@ ghost use Rattle.std.specs.Char.{to_ascii_lowercase};
 ghost use Rattle.config_text.specs.declared.place.Place.TheVariants as place;
 ghost use Rattle.config_text.specs.Reading.{start, moved, with_setting, with_content, with_blank, behind_end, at_item, at_front, in_section, behind_section, behind_backslash, in_sub, behind_sub, behind_key, in_key, in_value, in_quotes, in_escape, in_comment, step, may_return, whole, Went};
 
-use crate::bytes::{
-    escaped, is_blank, is_end, is_include, is_key_byte, is_section_byte, is_sub_byte,
-};
+use crate::bytes::{escaped, is_end, is_include, is_key_byte, is_section_byte, is_sub_byte};
 use crate::config::Setting;
 use crate::place::Place;
-use seq_base::Bytes;
+use seq_base::{Bytes, is_blank};
 use std::alloc::{AllocError, Global};
 use std::marker::Model;
 

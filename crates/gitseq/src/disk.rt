@@ -5,11 +5,12 @@ ghost use Rattle.std.specs.List.{AllByRecursion, list_all};
 ghost use Rattle.std.specs.Prelude.{◌≡◌, IfOk};
 ghost use Rattle.seq_base.specs.StorePaths.{IsStorePath, is_store_path as is_store_path_of};
 
+use crate::folders::Folders;
 use crate::place::{Place, place_of, stands_at};
 use seq_base::{Bytes, is_store_path};
 use std::alloc::{AllocError, Global};
 use std::fs::{OpenFile, OpenOptions, Permissions};
-use std::io::Write;
+use std::io::{Read, Write};
 use std::os::unix::fs::PermissionsExt;
 use std::path::Path;
 use std::rt::Files;
@@ -54,11 +55,16 @@ fn text_of(path: &[u8]) -> io::Result<&str> {
 }
 
 /// The bytes of a file, or the text of a link. None where neither stands there.
-pub fn read<R: Files + AllocGlobal>(rt: &R, path: &[u8]) -> io::Result<Option<Vec<u8>>> {
+pub fn read<R: Files + AllocGlobal>(
+    rt: &R,
+    alloc: Global,
+    folders: &mut Folders,
+    path: &[u8],
+) -> io::Result<Option<Vec<u8>>> {
     let path = text_of(path)?;
-    match place_of(rt, path)? {
+    match place_of(rt, alloc, folders, path)? {
         Place::Nothing | Place::Barred | Place::Folder => Ok(None),
-        Place::File => Ok(Some(fs::read(rt, path)?)),
+        Place::File(length) => Ok(Some(bytes_of(rt, alloc, path, length)?)),
         Place::Link => {
             let target = fs::read_link(rt, path)?;
             Ok(Some(target.into_string().into_bytes()))
@@ -67,15 +73,26 @@ pub fn read<R: Files + AllocGlobal>(rt: &R, path: &[u8]) -> io::Result<Option<Ve
     }
 }
 
+// The bytes of a file, in room for as many as it had and one more: so it is read at once, and its end is met without growing.
+fn bytes_of<R: Files>(rt: &R, alloc: Global, path: &str, length: u64) -> io::Result<Vec<u8>> {
+    let room = usize::try_from(length)
+        .unwrap_or(usize::MAX)
+        .saturating_add(1);
+    let mut bytes = Vec::with_capacity(alloc, room)?;
+    fs::open(rt, path)?.read_to_end(&mut bytes)?;
+    Ok(bytes)
+}
+
 /// Makes the temporary file anew with these bytes, and renames it. A file that it replaces hands its permissions on.
 pub fn replace<R: Files + AllocGlobal + Clone + Drop>(
     rt: &R,
     alloc: Global,
+    folders: &mut Folders,
     path: &[u8],
     bytes: &[u8],
 ) -> io::Result<Put> {
     let path = text_of(path)?;
-    let place = place_of(rt, path)?;
+    let place = place_of(rt, alloc, folders, path)?;
     match place {
         Place::Barred => return Ok(Put::Blocked),
         Place::Other => return Err(no_file()),
@@ -84,10 +101,10 @@ pub fn replace<R: Files + AllocGlobal + Clone + Drop>(
                 return Ok(Put::Blocked);
             }
         }
-        Place::Nothing | Place::File | Place::Link => {}
+        Place::Nothing | Place::File(_) | Place::Link => {}
     }
-    make_way_for_temporary(rt, alloc)?;
-    match write_and_move(rt, alloc, path, place, bytes) {
+    make_way_for_temporary(rt, alloc, folders)?;
+    match write_and_move(rt, alloc, folders, path, place, bytes) {
         Ok(()) => Ok(Put::Done),
         Err(error) => {
             let _ = fs::remove_file(rt, TEMPORARY);
@@ -107,18 +124,28 @@ fn has_files<R: Files + AllocGlobal + Clone + Drop>(
 fn make_way_for_temporary<R: Files + AllocGlobal + Clone + Drop>(
     rt: &R,
     alloc: Global,
+    folders: &mut Folders,
 ) -> io::Result<()> {
-    match place_of(rt, TEMPORARY)? {
-        Place::Nothing => fs::create_dir_all(rt, REPOSITORY),
+    match place_of(rt, alloc, folders, TEMPORARY)? {
+        Place::Nothing => make_folder(rt, folders, REPOSITORY),
         Place::Barred => Err(io::Error::from(io::ErrorKind::NotADirectory)),
-        Place::Folder => remove_folders(rt, alloc, TEMPORARY),
-        Place::File | Place::Link | Place::Other => fs::remove_file(rt, TEMPORARY),
+        Place::Folder => remove_folders(rt, alloc, folders, TEMPORARY),
+        Place::File(_) | Place::Link | Place::Other => fs::remove_file(rt, TEMPORARY),
     }
+}
+
+// Makes a folder and those that it lies in, where it was not seen.
+fn make_folder<R: Files>(rt: &R, folders: &Folders, folder: &str) -> io::Result<()> {
+    if folders.has(folder) {
+        return Ok(());
+    }
+    fs::create_dir_all(rt, folder)
 }
 
 fn write_and_move<R: Files + AllocGlobal + Clone + Drop>(
     rt: &R,
     alloc: Global,
+    folders: &mut Folders,
     path: &str,
     place: Place,
     bytes: &[u8],
@@ -127,15 +154,15 @@ fn write_and_move<R: Files + AllocGlobal + Clone + Drop>(
         .write(true)
         .create_new(true)
         .open(rt, TEMPORARY)?;
-    if place == Place::File {
+    if let Place::File(_) = place {
         hand_permissions_on(rt, path, &file)?;
     }
     file.write_all(bytes)?;
     if place == Place::Folder {
-        remove_folders(rt, alloc, path)?;
+        remove_folders(rt, alloc, folders, path)?;
     }
     if let Some((folder, _)) = path.rsplit_once('/') {
-        fs::create_dir_all(rt, folder)?;
+        make_folder(rt, folders, folder)?;
     }
     fs::rename(rt, TEMPORARY, path)
 }
@@ -153,6 +180,7 @@ fn hand_permissions_on<R: Files>(rt: &R, path: &str, to: &R::File) -> io::Result
 fn remove_folders<R: Files + AllocGlobal + Clone + Drop>(
     rt: &R,
     alloc: Global,
+    folders: &mut Folders,
     folder: &str,
 ) -> io::Result<()> {
     let found = contents_below(rt, alloc, folder)?;
@@ -160,20 +188,31 @@ fn remove_folders<R: Files + AllocGlobal + Clone + Drop>(
         return Err(io::Error::from(io::ErrorKind::DirectoryNotEmpty));
     }
     for below in found.folders.iter().rev() {
-        fs::remove_dir(rt, below.as_str())?;
+        remove_folder(rt, folders, below.as_str())?;
     }
+    Ok(())
+}
+
+fn remove_folder<R: Files>(rt: &R, folders: &mut Folders, folder: &str) -> io::Result<()> {
+    fs::remove_dir(rt, folder)?;
+    folders.forget(folder);
     Ok(())
 }
 
 /// Removes a file or a link, and the folders that it leaves empty, up to the root and never `.git`, `.git/objects` or `.git/refs`.
 /// Answers whether it was there.
-pub fn remove<R: Files>(rt: &R, path: &[u8]) -> io::Result<bool> {
+pub fn remove<R: Files>(
+    rt: &R,
+    alloc: Global,
+    folders: &mut Folders,
+    path: &[u8],
+) -> io::Result<bool> {
     let path = text_of(path)?;
-    match place_of(rt, path)? {
+    match place_of(rt, alloc, folders, path)? {
         Place::Nothing | Place::Barred | Place::Folder => Ok(false),
-        Place::File | Place::Link => {
+        Place::File(_) | Place::Link => {
             fs::remove_file(rt, path)?;
-            remove_left_empty(rt, path);
+            remove_left_empty(rt, folders, path);
             Ok(true)
         }
         Place::Other => Err(no_file()),
@@ -185,10 +224,10 @@ fn is_kept(folder: &str) -> bool {
     folder.is_empty() || folder == REPOSITORY || folder == OBJECTS || folder == REFS
 }
 
-fn remove_left_empty<R: Files>(rt: &R, path: &str) {
+fn remove_left_empty<R: Files>(rt: &R, folders: &mut Folders, path: &str) {
     for folder in Path::new(path).ancestors().skip(1) {
         let folder = folder.as_str();
-        if is_kept(folder) || fs::remove_dir(rt, folder).is_err() {
+        if is_kept(folder) || remove_folder(rt, folders, folder).is_err() {
             return;
         }
     }
@@ -198,6 +237,7 @@ fn remove_left_empty<R: Files>(rt: &R, path: &str) {
 pub fn list<R: Files + AllocGlobal + Clone + Drop>(
     rt: &R,
     alloc: Global,
+    folders: &mut Folders,
     folder: &[u8],
 ) -> io::Result<Vec<Bytes>>
     ensures { IfOk result (λ paths. AllByRecursion IsStorePath paths.items) }
@@ -206,10 +246,10 @@ pub fn list<R: Files + AllocGlobal + Clone + Drop>(
     let place = if folder.is_empty() {
         Place::Folder
     } else {
-        place_of(rt, folder)?
+        place_of(rt, alloc, folders, folder)?
     };
     match place {
-        Place::Nothing | Place::Barred | Place::File | Place::Link => Ok(Vec::new(alloc)),
+        Place::Nothing | Place::Barred | Place::File(_) | Place::Link => Ok(Vec::new(alloc)),
         Place::Folder => sorted(contents_below(rt, alloc, folder)?.files),
         Place::Other => Err(no_file()),
     }
@@ -264,7 +304,7 @@ fn contents_of<R: Files + AllocGlobal + Clone + Drop>(
         let path = join(alloc, folder, entry?.file_name())?;
         match stands_at(rt, path.as_str())? {
             Place::Nothing | Place::Barred => {}
-            Place::File | Place::Link => files.push(Bytes::from_vec(path.into_bytes()))?,
+            Place::File(_) | Place::Link => files.push(Bytes::from_vec(path.into_bytes()))?,
             Place::Folder => folders.push(path)?,
             Place::Other => return Err(no_file()),
         }

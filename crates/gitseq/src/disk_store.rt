@@ -1,10 +1,11 @@
 //! The store on disk.
 
-ghost use Rattle.std.specs.FinMap as map;
-ghost use Rattle.std.specs.Prelude.{◌≡◌, IfOk, IsErrOf};
-ghost use Rattle.seq_outside.specs.Store.{HasStoreCause};
+ghost use Rattle.std.specs.Prelude.{◌≡◌, IfOk};
+ghost use Rattle.seq_outside.specs.Seen.{Reads, store_cause};
+ghost use Rattle.gitseq.specs.Counts.{counts};
 
 use crate::disk::{self, Put};
+use crate::folders::Folders;
 use seq_base::Bytes;
 use seq_outside::{Store, StoreError};
 use std::alloc::Global;
@@ -16,6 +17,7 @@ use std::rt::Files;
 #[derive(Drop)]
 pub struct DiskStore<'a, R: Files + AllocGlobal + Clone + Drop> {
     rt: &'a R,
+    folders: Folders,
     faults: u64,
     blocked: u64,
 }
@@ -24,15 +26,20 @@ impl<'a, R: Files + AllocGlobal + Clone + Drop> DiskStore<'a, R> {
     pub fn new(rt: &'a R) -> DiskStore<'a, R> {
         DiskStore {
             rt,
+            folders: Folders::new(rt.alloc()),
             faults: 0,
             blocked: 0,
         }
     }
 
+    /// Forgets which folders were seen: whoever runs a child calls it then.
+    pub fn forget_folders(&mut self) {
+        self.folders.forget_all();
+    }
+
     fn counted<T>(&mut self, answer: io::Result<T>) -> Result<T, StoreError>
         ensures found { IfOk result (λ found. answer ≡ Ok found) }
-        ensures cause { HasStoreCause result self.old.faults self.new.faults self.old.blocked self.new.blocked }
-        ensures not_blocked { IsErrOf result StoreError.Blocked → ⊥ }
+        ensures reads { Reads ⊥ store_cause result (counts self.old.faults self.old.blocked) (counts self.new.faults self.new.blocked) }
     {
         match answer {
             Ok(found) => Ok(found),
@@ -48,23 +55,19 @@ impl<'a, R: Files + AllocGlobal + Clone + Drop> DiskStore<'a, R> {
 impl<'a, R: Files + AllocGlobal + Clone + Drop> Store for DiskStore<'a, R> {
     ghost told = { ⊥ };
 
-    ghost content = { λ _. map.empty };
-
-    ghost faults = { λ store. store.faults };
-
-    ghost blocked = { λ store. store.blocked };
+    ghost seen = { λ store. counts store.faults store.blocked };
 
     ghost shaped = { λ _ told. absurd told };
 
     ghost at_store_paths = { λ _ told. absurd told };
 
-    fn get(&mut self, _alloc: Global, path: &[u8]) -> Result<Option<Vec<u8>>, StoreError> {
-        let found = disk::read(self.rt, path);
+    fn get(&mut self, alloc: Global, path: &[u8]) -> Result<Option<Vec<u8>>, StoreError> {
+        let found = disk::read(self.rt, alloc, &mut self.folders, path);
         self.counted(found)
     }
 
     fn put(&mut self, alloc: Global, path: &[u8], bytes: &[u8]) -> Result<(), StoreError> {
-        let put = disk::replace(self.rt, alloc, path, bytes);
+        let put = disk::replace(self.rt, alloc, &mut self.folders, path, bytes);
         match self.counted(put)? {
             Put::Done => Ok(()),
             Put::Blocked => {
@@ -74,13 +77,13 @@ impl<'a, R: Files + AllocGlobal + Clone + Drop> Store for DiskStore<'a, R> {
         }
     }
 
-    fn remove(&mut self, _alloc: Global, path: &[u8]) -> Result<bool, StoreError> {
-        let removed = disk::remove(self.rt, path);
+    fn remove(&mut self, alloc: Global, path: &[u8]) -> Result<bool, StoreError> {
+        let removed = disk::remove(self.rt, alloc, &mut self.folders, path);
         self.counted(removed)
     }
 
     fn list(&mut self, alloc: Global, folder: &[u8]) -> Result<Vec<Bytes>, StoreError> {
-        let listed = disk::list(self.rt, alloc, folder);
+        let listed = disk::list(self.rt, alloc, &mut self.folders, folder);
         self.counted(listed)
     }
 }

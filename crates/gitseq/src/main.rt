@@ -3,6 +3,7 @@
 
 mod disk;
 mod disk_store;
+mod folders;
 mod place;
 mod start;
 mod stdout_sink;

@@ -14,6 +14,3 @@ pub use fault::ReadError;
 pub use fields::{behind_literal, passing_front, word_of};
 pub use lines::line_of_place;
 pub use scan::{Scan, span_of};
-
-#[cfg(test)]
-mod tests;

@@ -11,6 +11,3 @@ pub use fault::IdentFault;
 pub use ident::{Ident, ident_text, parse_ident};
 pub use parts::{IdentParts, ident_of, is_ident_byte};
 pub use script::{author_script, parse_author_script};
-
-#[cfg(test)]
-mod tests;

@@ -1,11 +1,12 @@
 -- The bytes of an index file, version 2 (gitformat-index(5)).
-use Rattle.std.specs.Prelude.{◌≡◌, ℕ, ◌+◌, ◌-◌, ◌*◌, ◌%◌, ◌<◌, ◌≤◌, ◌⊎◌, ◌^◌, List, [], ◌∷◌, ◌++◌, length, take, drop, slice_index, replicate, map, codes}
+use Rattle.std.specs.Prelude.{◌≡◌, ℕ, ◌+◌, ◌-◌, ◌*◌, ◌%◌, ◌<◌, ◌≤◌, ◌⊎◌, ◌^◌, List, ◌++◌, length, take, drop, slice_index, replicate, map, codes}
 use Rattle.std.specs.List.{AllByRecursion, flat_map}
 use Rattle.std.specs.Int.{w16, w32, to_be_bytes, from_be_bytes}
 use Rattle.hex.specs.Hex.{IsBytes}
 use Rattle.sha1.specs.Sha1.{sha1}
 use Rattle.seq_base.specs.Modes.{mode_number}
 use Rattle.seq_base.specs.Paths.{IsPath}
+use Rattle.seq_base.specs.Ids.{HasIdWidth}
 use Rattle.index_file.specs.declared.entry.IndexEntry.{IndexEntry}
 use Rattle.index_file.specs.Entries.{IsStaged, IsIndex}
 
@@ -26,7 +27,7 @@ pub record IsRow (r : Stat × IndexEntry) : Type 0 where
   pub stat : IsStat r.0
   pub staged : IsStaged r.1
   pub path : IsPath r.1.path
-  pub id : length r.1.id ≡ 20
+  pub id : HasIdWidth r.1.id
   pub bytes : IsBytes r.1.id
 
 -- how many NULs follow so many bytes, up to a multiple of 8

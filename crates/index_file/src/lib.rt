@@ -12,6 +12,3 @@ pub use entry::IndexEntry;
 pub use fault::IndexFault;
 pub use read::parse_index;
 pub use write::index_text;
-
-#[cfg(test)]
-mod tests;

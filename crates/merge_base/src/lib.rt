@@ -4,8 +4,6 @@
 mod graph;
 mod ids;
 mod search;
-#[cfg(test)]
-mod tests;
 
 pub use graph::{Graph, GraphFault, Node};
 pub use ids::Ids;

@@ -1,12 +1,13 @@
 -- The last byte that does not pass is where a text without its end ends.
-use Rattle.std.proofs.Common.{◌≡◌, ℕ, zero, suc, ◌+◌, ◌-◌, ◌<◌, Bool, true, false, List, [], ◌∷◌, length, get_or, take, refl, sym, ap, ◌∙◌, arith, add-one}
+use Rattle.std.proofs.Common.{◌≡◌, ℕ, zero, suc, ◌+◌, ◌<◌, Bool, true, false, List, [], ◌∷◌, length, get_or, take, refl, sym, ap, ◌∙◌, arith, add-one}
 use Rattle.std.specs.Prelude.{Some, None, not, ◌||◌, ◌==◌}
 use Rattle.std.specs.List.{list_all}
 use Rattle.std.proofs.lemmas.Bool.{cond-true, cond-false, and_from}
 use Rattle.std.proofs.lemmas.List.Folds.{list_all_at}
 use Rattle.memchr.specs.Find.{IsLastByte}
 use Rattle.bstr.specs.Bytes.{is_in, not_in}
-use Rattle.message_text.specs.Lines.{without_end, without_blanks, body, is_blank, is_line_feed}
+use Rattle.message_text.specs.Lines.{without_end, without_blanks, body, is_line_feed}
+use Rattle.seq_base.specs.Blanks.{is_blank}
 
 module _ (p : ℕ → Bool) where
   all_pass : (xs : List ℕ) → ((k : ℕ) → k < length xs → p (get_or xs k 0) ≡ true) → list_all p xs ≡ true

@@ -1,13 +1,14 @@
 -- A cleaned text has nothing left to clean.
-use Rattle.std.proofs.Common.{◌≡◌, ℕ, ◌+◌, Bool, true, false, List, [], ◌∷◌, ◌++◌, refl, sym, ap, subst, ◌∙◌, ⊎_elim, ◌⊎◌, append_assoc}
+use Rattle.std.proofs.Common.{◌≡◌, ℕ, Bool, true, false, List, [], ◌∷◌, ◌++◌, refl, sym, ap, subst, ◌∙◌, ⊎_elim, append_assoc}
 use Rattle.std.proofs.lemmas.Bool.{cases_Bool, cond-true, cond-false}
 use Rattle.std.proofs.lemmas.List.Elements.{All-from_recursion}
 use Rattle.std.proofs.lemmas.List.Splits.{slice_split-cons_yes, slice_split-cons_no, slice_split_at}
 use Rattle.std.specs.Prelude.{map, not, filter, ◌&&◌}
 use Rattle.std.specs.List.{slice_split, onto_first, list_all, AllByRecursion as Each}
-use Rattle.message_text.specs.Lines.{lines, text_of, is_line_feed, is_empty, has_some, without_end, without_blanks, is_blank}
+use Rattle.message_text.specs.Lines.{lines, text_of, is_line_feed, is_empty, has_some, without_end, without_blanks}
 use Rattle.message_text.specs.Paragraphs.{paragraphs, spaced}
 use Rattle.message_text.specs.Cleaned.{is_comment, own_lines, cleaned}
+use Rattle.seq_base.specs.Blanks.{is_blank}
 
 pub Each-append : {X : Type 0} (P : X → Type 0) (xs ys : List X) → Each P xs → Each P ys → Each P (xs ++ ys)
 Each-append P [] ys h k = k

@@ -1,6 +1,7 @@
 -- Lines, as git-stripspace(1) and git-commit(1) speak of them: what stands between line feeds. Blanks are spaces and tabs.
-use Rattle.std.specs.Prelude.{ℕ, Bool, not, ◌||◌, ◌==◌, if◌then◌else◌, List, [], ◌∷◌, ◌++◌, length}
+use Rattle.std.specs.Prelude.{ℕ, Bool, not, ◌==◌, if◌then◌else◌, List, [], ◌∷◌, ◌++◌, length}
 use Rattle.std.specs.List.{list_all, slice_split, flat_map}
+use Rattle.seq_base.specs.Blanks.{is_blank}
 
 -- the lines of a text: one that ends in a line feed has an empty last line
 abbrev pub lines : List ℕ → List (List ℕ)
@@ -15,9 +16,6 @@ is_empty xs = length xs == 0
 
 abbrev pub has_some : {X : Type 0} → List X → Bool
 has_some xs = not (is_empty xs)
-
-abbrev pub is_blank : ℕ → Bool
-is_blank b = b == 32 || b == 9
 
 abbrev pub is_line_feed : ℕ → Bool
 is_line_feed b = b == 10

@@ -10,8 +10,6 @@ mod lines;
 mod picks;
 mod places;
 mod subjects;
-#[cfg(test)]
-mod tests;
 
 pub use chain::{ChainItem, ChainKind};
 pub use chain_texts::chain_text;

@@ -1,12 +1,12 @@
 -- The objects of a store (gitrepository-layout(5), "objects/[0-9a-f][0-9a-f]"; the text stands in the file as it is; git-hash-object(1)).
-use Rattle.std.specs.Prelude.{ℕ, zero, suc, ◌&&◌, nat_le, if◌then◌else◌, List, [], ◌∷◌, ◌++◌, length, take, drop, codes, Option, Some, None, Result, Ok, Err, option_and_then}
+use Rattle.std.specs.Prelude.{ℕ, zero, suc, ◌&&◌, nat_le, if◌then◌else◌, List, [], ◌∷◌, length, codes, Option, Some, None, Result, Ok, Err, option_and_then}
 use Rattle.std.specs.FinMap as map
 use Rattle.std.specs.Str.{bytes_eq}
-use Rattle.hex.specs.Hex.{encode_lower}
 use Rattle.sha1.specs.Sha1.{sha1}
 use Rattle.grammar.specs.Readers.{◌>>=◌, valued_at, literal_at, run_at}
 use Rattle.grammar.specs.Keywords.{may_of, value_of}
 use Rattle.seq_base.specs.World.{World}
+use Rattle.seq_base.specs.Repository.{object_path}
 use Rattle.object_text.specs.declared.object.Kind.{Kind}
 use Rattle.object_text.specs.declared.object.Kind.TheVariants.{Blob, Tree, Commit, Tag}
 use Rattle.object_text.specs.declared.object.Object.{Object}
@@ -36,10 +36,6 @@ commit_of content = value_read (commit_from content)
 -- the id of an object
 abbrev pub object_id : Object → List ℕ
 object_id o = sha1 (object_text o)
-
--- `.git/objects/`, the first two digits of the id, `/`, and the others
-abbrev pub object_path : List ℕ → List ℕ
-object_path id = codes ".git/objects/" ++ take 2 (encode_lower id) ++ 47 ∷ drop 2 (encode_lower id)
 
 -- the most bytes that the content of an object may have
 abbrev pub content_limit : ℕ

@@ -7,6 +7,7 @@ use Rattle.seq_base.specs.declared.mode.Mode.TheVariants.{File, Exec, Link, Gitl
 use Rattle.seq_base.specs.Modes.{mode_text}
 use Rattle.seq_base.specs.Paths.{is_special}
 use Rattle.seq_base.specs.PathMaps.{is_less}
+use Rattle.seq_base.specs.Ids.{HasIdWidth}
 use Rattle.object_text.specs.declared.tree.TreeEntry.{TreeEntry}
 
 -- `<octal mode> SP <name> NUL <20 bytes>`
@@ -44,7 +45,7 @@ IsTreeOrder (e ∷ es) = (is_name e.name ≡ true) × AllByRecursion (IsBefore e
 
 -- an id has 20 bytes
 abbrev pub HaveIds : List TreeEntry → Type 0
-HaveIds = AllByRecursion (λ e. length e.id ≡ 20)
+HaveIds = AllByRecursion (λ e. HasIdWidth e.id)
 
 -- the bytes are the tree of these entries
 pub record IsTree (es : List TreeEntry) (bytes : List ℕ) : Type 0 where

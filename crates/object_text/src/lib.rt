@@ -16,6 +16,3 @@ pub use commit_write::commit_text;
 pub use fault::TextFault;
 pub use object::{Kind, Object, object_header, object_text, parse_object};
 pub use tree::{TreeEntry, parse_tree, tree_text};
-
-#[cfg(test)]
-mod tests;

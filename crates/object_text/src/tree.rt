@@ -6,6 +6,7 @@ ghost use Rattle.grammar.specs.Grammar.{IsReading};
 ghost use Rattle.object_text.specs.Faults.{IsTextFault};
 ghost use Rattle.object_text.specs.Trees.{entry_text, IsTreeOrder, IsTree};
 ghost use Rattle.object_text.specs.ReadTrees.{tree_from};
+ghost use Rattle.seq_base.specs.Ids.{HasIdWidth};
 
 use crate::fault::TextFault;
 use crate::tree_name::entry_of;
@@ -23,7 +24,7 @@ pub struct TreeEntry {
 
 fn put_entry(out: &mut Vec<u8>, entry: &TreeEntry) -> Result<(), AllocError>
     ensures text { IfOk result (λ _. out.new.items ≡ out.old.items ++ entry_text entry.now) }
-    ensures id { length entry.now.id ≡ 20 }
+    ensures id { HasIdWidth entry.now.id }
 {
     let id = entry.id.bytes();
     let mode: &[u8] = match entry.mode {

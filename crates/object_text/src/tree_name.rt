@@ -14,9 +14,8 @@ ghost use Rattle.object_text.specs.ReadTrees.{modes, may_name, HasSeen, last_key
 
 use crate::tree::TreeEntry;
 use grammar::{ReadError, Scan, span_of};
-use seq_base::{Bytes, Id, Mode};
+use seq_base::{Bytes, Id, Mode, comes_before};
 use std::alloc::{AllocError, Global};
-use std::cmp::Ordering;
 
 /// Whether a mode's text begins so.
 fn is_mode_front(front: &[u8]) -> bool
@@ -78,15 +77,6 @@ fn is_name(name: &[u8]) -> bool
     ensures { result ≡ may_be_name name.now }
 {
     !name.is_empty() && has_name_bytes(name) && !is_special_name(name)
-}
-
-fn comes_before(a: &[u8], b: &[u8]) -> bool
-    ensures { result ≡ is_less a.now b.now }
-{
-    match a.cmp(b) {
-        Ordering::Less => true,
-        Ordering::Equal | Ordering::Greater => false,
-    }
 }
 
 fn are_same(a: &[u8], b: &[u8]) -> bool

@@ -1,6 +1,6 @@
 -- An object that is put.
 use Rattle.std.proofs.Common.{◌≡◌, ◌⊎◌, ℕ, ◌<◌, ◌≤◌, ◌^◌, Bool, true, false, cond, ◌==◌, ◌&&◌, take, drop, List, [], ◌∷◌, ◌++◌, length, Option, Some, None, Result, Ok, Err, refl, sym, ap, subst, ◌∙◌, append_assoc, inl, inr, arith}
-use Rattle.std.specs.Prelude.{decimal}
+use Rattle.std.specs.Prelude.{IfOk, decimal}
 use Rattle.std.specs.FinMap as map
 use Rattle.std.specs.Cmp.Lexicographic.{nat_list_cmp_total}
 use Rattle.std.specs.Ordering.{eq_by_cmp}
@@ -9,31 +9,25 @@ use Rattle.std.proofs.lemmas.Bool.{both_ways}
 use Rattle.std.proofs.lemmas.List.{length-take-le, take-append-drop}
 use Rattle.std.proofs.lemmas.Slice.Eq.{bytes_eq-Decides}
 use Rattle.sha1.specs.Sha1.{sha1}
-use Rattle.seq_base.specs.Paths.{parts}
-use Rattle.seq_base.specs.Repository.{IsRepository, is_file_place}
+use Rattle.seq_base.specs.Repository.{object_path}
+use Rattle.seq_base.specs.Words.{Id, Path, Text}
 use Rattle.seq_base.specs.World.{World, is_blocked, path_cmp}
-use Rattle.seq_base.proofs.Repositories.{kept_is_free, stays_repository_kept}
 use Rattle.seq_base.proofs.Shape.{equal_to_itself, same_path}
 use Rattle.object_text.specs.declared.object.Object.{Object}
 use Rattle.object_text.specs.Objects.{header_text, kind_text, object_text}
-use Rattle.object_text.specs.Store.{Put, content_limit, object_at, object_id, object_path, put_at, put_object}
+use Rattle.object_text.specs.Store.{Put, content_limit, object_at, object_id, put_at, put_object}
 use Rattle.object_text.proofs.ObjectLaws.{object_written}
-use Rattle.objects.specs.Puts.{HasOther, HasPut, IsKept, IsPut}
+use Rattle.objects.specs.Puts.{HasOther, HasPut, HasTextPut, IsKept, IsPut}
 use Rattle.objects.specs.declared.fault.ObjectFault.{ObjectFault}
-use Rattle.objects.specs.declared.fault.ObjectFault.TheVariants.{Missing, TooLarge, WrongHash, BadText, Collision, Fault, Memory}
+use Rattle.objects.specs.declared.fault.ObjectFault.TheVariants.{Missing, TooLarge, WrongHash, BadText, Collision, Blocked, Fault, Memory}
 use Rattle.objects.proofs.Reading.{object_read}
-use Rattle.objects.specs.Causes.{fault_of}
 use Rattle.seq_base.specs.Steps.{world_steps}
-use Rattle.seq_outside.specs.Causes.{Rose}
-use Rattle.seq_outside.specs.Store.{HasStoreCause, PutLeaves}
-use Rattle.seq_outside.specs.declared.store.StoreError.{StoreError}
-use Rattle.seq_outside.specs.declared.store.StoreError.TheVariants as store
 
 -- the header, and the content behind it
 pub pieces : (o : Object) → header_text o.kind (length o.bytes) ++ o.bytes ≡ object_text o
 pieces o = append_assoc (kind_text o.kind ++ 32 ∷ decimal (length o.bytes)) (0 ∷ []) o.bytes
 
-put_is : (w : World) (o : Object) (file : Option (List ℕ)) → map.get w (object_path (object_id o)) ≡ file → put_object w o ≡ put_at w (object_id o) (object_path (object_id o)) (object_text o) file
+pub put_is : (w : World) (o : Object) (file : Option (List ℕ)) → map.get w (object_path (object_id o)) ≡ file → put_object w o ≡ put_at w (object_id o) (object_path (object_id o)) (object_text o) file
 unfolding put_object
 put_is w o file is = ap (put_at w (object_id o) (object_path (object_id o)) (object_text o)) is
 
@@ -42,15 +36,31 @@ insert_there w path text now is = ap (λ (v : World). map.get v path) is ∙ (ma
 
 -- ---- what putting answers
 
-pub put_new : (w : World) (o : Object) (id : List ℕ) (now : World) → id ≡ object_id o → length o.bytes ≤ content_limit → map.get w (object_path (object_id o)) ≡ None
-    → now ≡ map.insert w (object_path (object_id o)) (object_text o) → IsPut w o id now
-put_new w o id now id_is within absent is = record {
-  id_is = id_is;
+pub put_new : (w : World) (o : Object) (r : Result Id ObjectFault) (now : World) → length o.bytes ≤ content_limit → map.get w (object_path (object_id o)) ≡ None
+    → HasTextPut w (object_id o) (object_path (object_id o)) (object_text o) r now → HasPut w o r now
+put_new w o (Ok id) now within absent is = record {
+  id_is = is.0;
   within = within;
-  world = is ∙ sym (ap (λ (p : Put). p.world) (put_is w o None absent));
+  world = is.2 ∙ sym (ap (λ (p : Put). p.world) (put_is w o None absent));
   free = ap (λ (p : Put). p.collision) (put_is w o None absent);
-  file = ap (λ (i : List ℕ). map.get now (object_path i)) id_is ∙ insert_there w (object_path (object_id o)) (object_text o) now is;
+  clear = λ none. ap (λ (i : Id). is_blocked w (object_path i)) is.0 ∙ is.1;
+  file = ap (λ (i : Id). map.get now (object_path i)) is.0 ∙ insert_there w (object_path (object_id o)) (object_text o) now is.2;
 }
+put_new w o (Err Missing) now within absent is = absurd is
+put_new w o (Err (TooLarge count)) now within absent is = absurd is
+put_new w o (Err (WrongHash id found)) now within absent is = absurd is
+put_new w o (Err (BadText at)) now within absent is = absurd is
+put_new w o (Err (Collision id kept)) now within absent is = absurd is
+put_new w o (Err (Blocked path)) now within absent is = record {
+  path_is = is.0;
+  within = within;
+  absent = ap (map.get w) is.0 ∙ absent;
+  blocked = ap (is_blocked w) is.0 ∙ is.1;
+  same = is.2;
+}
+put_new w o (Err Fault) now within absent (inl same) = inl same
+put_new w o (Err Fault) now within absent (inr put) = inr (put ∙ sym (ap (λ (p : Put). p.world) (put_is w o None absent)))
+put_new w o (Err Memory) now within absent is = is
 
 pub put_same : (w : World) (o : Object) (id kept : List ℕ) (now : World) → id ≡ object_id o → length o.bytes ≤ content_limit → map.get w (object_path (object_id o)) ≡ Some kept → bytes_eq kept (object_text o) ≡ true → now ≡ w → IsPut w o id now
 put_same w o id kept now id_is within held equal same =
@@ -60,6 +70,7 @@ put_same w o id kept now id_is within held equal same =
       within = within;
       world = same ∙ sym (ap (λ (p : Put). p.world) is);
       free = ap (λ (p : Put). p.collision) is ∙ ap (λ (t : Bool). cond t None (Some (object_id o))) equal;
+      clear = λ none. let there = ap (λ (i : Id). map.get w (object_path i)) id_is ∙ held in cc;
       file = ap (λ (i : List ℕ). map.get now (object_path i)) id_is ∙ (ap (λ (v : World). map.get v (object_path (object_id o))) same ∙ (held ∙ ap Some ((bytes_eq-Decides kept (object_text o)).0 equal)));
     }
 
@@ -81,15 +92,9 @@ put_other w o id kept now (BadText at) is other = absurd other
 put_other w o id kept now (Collision wanted found) is other =
     let same : IsKept w o wanted found now = subst (λ (k : List ℕ). IsKept w o wanted k now) (sym other.1) (subst (λ (i : List ℕ). IsKept w o i kept now) (sym other.0) is) in
     (same, ap sha1 other.1 ∙ (other.2 ∙ sym other.0))
+put_other w o id kept now (Blocked path) is other = absurd other
 put_other w o id kept now Fault is other = absurd other
 put_other w o id kept now Memory is other = absurd other
-
--- where the store's put failed
-pub put_failed : (w : World) (o : Object) (now : World) (e : StoreError) → map.get w (object_path (object_id o)) ≡ None → PutLeaves {T = Unit {0}} (Err e) w (object_path (object_id o)) (object_text o) now → HasPut w o (Err (fault_of e)) now
-put_failed w o now store.Failed absent (inl same) = inl same
-put_failed w o now store.Failed absent (inr put) = inr (put.1 ∙ sym (ap (λ (p : Put). p.world) (put_is w o None absent)))
-put_failed w o now store.Blocked absent leaves = inl leaves.1
-put_failed w o now store.Memory absent leaves = leaves
 
 -- ---- what follows of it
 
@@ -102,6 +107,10 @@ object_of_file w o within file =
 
 pub put_object_at : (w : World) (o : Object) (id : List ℕ) (now : World) → IsPut w o id now → object_at now id ≡ Some o
 put_object_at w o id now is = ap (object_at now) is.id_is ∙ object_of_file now o is.within (ap (λ (i : List ℕ). map.get now (object_path i)) (sym is.id_is) ∙ is.file)
+
+pub new_object : (w : World) (o : Object) (r : Result Id ObjectFault) (now : World) → HasPut w o r now → IfOk r (λ id. object_at now id ≡ Some o)
+new_object w o (Ok id) now is = put_object_at w o id now is
+new_object w o (Err fault) now is = tt
 
 -- where no other text stands in its file, the object's does then
 pub free_file : (w : World) (o : Object) → (put_object w o).collision ≡ None → map.get (put_object w o).world (object_path (object_id o)) ≡ Some (object_text o)
@@ -149,15 +158,10 @@ old_or_new w o (Err (TooLarge count)) now is = inl is.same
 old_or_new w o (Err (WrongHash id found)) now is = inl is.1.same
 old_or_new w o (Err (BadText at)) now is = absurd is
 old_or_new w o (Err (Collision id kept)) now is = inl is.0.same
+old_or_new w o (Err (Blocked path)) now is = inl is.same
 old_or_new w o (Err Fault) now (inl same) = inl same
 old_or_new w o (Err Fault) now (inr put) = old_or_put w o now put
 old_or_new w o (Err Memory) now is = inl is
-
-pub put_stays : (w : World) (o : Object) (r : Result (List ℕ) ObjectFault) (now : World) → HasPut w o r now → is_file_place (parts (object_path (object_id o))) ≡ true → IsRepository w → IsRepository now
-put_stays w o r now is place repository = elim (old_or_new w o r now is) [
-  | inl same ↦ subst IsRepository (sym same) repository
-  | inr put ↦ subst IsRepository (sym put) (stays_repository_kept w (object_path (object_id o)) (object_text o) repository place)
-]
 
 pub put_elsewhere : (w : World) (o : Object) (r : Result (List ℕ) ObjectFault) (now : World) → HasPut w o r now → (other : List ℕ) → eq_by_cmp path_cmp other (object_path (object_id o)) ≡ false → map.get now other ≡ map.get w other
 put_elsewhere w o r now is other apart = elim (old_or_new w o r now is) [
@@ -167,22 +171,12 @@ put_elsewhere w o r now is other apart = elim (old_or_new w o r now is) [
 
 -- ---- the file that is put
 
--- what a failed put leaves, by the names of the definition
-pub leaves_moved : (e : StoreError) (w old : World) (path at text written : List ℕ) (now : World) → old ≡ w → at ≡ path → written ≡ text → PutLeaves {T = Unit {0}} (Err e) old at written now → PutLeaves {T = Unit {0}} (Err e) w path text now
-leaves_moved e w old path at text written now same here is leaves =
-    subst (λ (t : List ℕ). PutLeaves {T = Unit {0}} (Err e) w path t now) is
-    (subst (λ (p : List ℕ). PutLeaves {T = Unit {0}} (Err e) w p written now) here (subst (λ (v : World). PutLeaves {T = Unit {0}} (Err e) v at written now) same leaves))
-
--- the world after a put, by the names of the definition
-pub inserted : (w old : World) (path at text written : List ℕ) (now : World) → old ≡ w → at ≡ path → written ≡ text → now ≡ map.insert old at written → now ≡ map.insert w path text
-inserted w old path at text written now same here is put = put ∙ (ap (λ (v : World). map.insert v at written) same ∙ (ap (λ (p : List ℕ). map.insert w p written) here ∙ ap (map.insert w path) is))
-
--- in a repository an object's file is not blocked
-pub fault_rose : (e : StoreError) (w : World) (path text : List ℕ) (now : World) (faults faults' blocked blocked' : ℕ) → IsRepository w → is_file_place (parts path) ≡ true → PutLeaves {T = Unit {0}} (Err e) w path text now
-    → HasStoreCause {T = Unit {0}} (Err e) faults faults' blocked blocked' → fault_of e ≡ Fault → Rose faults faults'
-fault_rose store.Failed w path text now faults faults' blocked blocked' repository place leaves cause is = cause.1
-fault_rose store.Blocked w path text now faults faults' blocked blocked' repository place leaves cause is = absurd (both_ways (is_blocked w path) (kept_is_free w path repository place) leaves.0)
-fault_rose store.Memory w path text now faults faults' blocked blocked' repository place leaves cause is = absurd cc
+-- what putting a text answers, by the names of the definition
+pub text_moved : (w old : World) (id at : Id) (path to : Path) (text written : Text) (r : Result Id ObjectFault) (now : World) → old ≡ w → at ≡ id → to ≡ path → written ≡ text
+    → HasTextPut old at to written r now → HasTextPut w id path text r now
+text_moved w old id at path to text written r now same is here whole put =
+    subst (λ (t : Text). HasTextPut w id path t r now) whole (subst (λ (p : Path). HasTextPut w id p written r now) here
+    (subst (λ (i : Id). HasTextPut w i to written r now) is (subst (λ (v : World). HasTextPut v at to written r now) same put)))
 
 -- ---- two pieces
 

@@ -1,39 +1,26 @@
--- What an answer says of the counts of a store.
-use Rattle.std.specs.Prelude.{◌≡◌, ◌⊎◌, ℕ, ◌≤◌, Result, Ok, Err}
-use Rattle.seq_outside.specs.Causes.{Rose}
+-- Why reading or putting an object ended.
+use Rattle.seq_outside.specs.Seen.{Cause}
+use Rattle.seq_outside.specs.Seen.Cause.{ByBlock, ByFault, ByNone}
 use Rattle.seq_outside.specs.declared.store.StoreError.{StoreError}
 use Rattle.seq_outside.specs.declared.store.StoreError.TheVariants as store
 use Rattle.objects.specs.declared.fault.ObjectFault.{ObjectFault}
-use Rattle.objects.specs.declared.fault.ObjectFault.TheVariants.{Missing, TooLarge, WrongHash, BadText, Collision, Fault, Memory}
+use Rattle.objects.specs.declared.fault.ObjectFault.TheVariants.{Missing, TooLarge, WrongHash, BadText, Collision, Blocked, Fault, Memory}
 
+-- of a call that is no put
 abbrev pub fault_of : StoreError → ObjectFault
 fault_of store.Failed = Fault
 fault_of store.Blocked = Fault
 fault_of store.Memory = Memory
 
--- A call that only reads: `Fault` comes only where the count of faults rose, and no other answer moves that count. Neither
--- count falls.
-abbrev pub HasReadCause : {T : Type 0} → Result T ObjectFault → ℕ → ℕ → ℕ → ℕ → Type 0
-HasReadCause (Ok x) faults faults' blocked blocked' = (faults' ≡ faults) × (blocked ≤ blocked')
-HasReadCause (Err Missing) faults faults' blocked blocked' = (faults' ≡ faults) × (blocked ≤ blocked')
-HasReadCause (Err (TooLarge length)) faults faults' blocked blocked' = (faults' ≡ faults) × (blocked ≤ blocked')
-HasReadCause (Err (WrongHash id found)) faults faults' blocked blocked' = (faults' ≡ faults) × (blocked ≤ blocked')
-HasReadCause (Err (BadText at)) faults faults' blocked blocked' = (faults' ≡ faults) × (blocked ≤ blocked')
-HasReadCause (Err (Collision id kept)) faults faults' blocked blocked' = (faults' ≡ faults) × (blocked ≤ blocked')
-HasReadCause (Err Fault) faults faults' blocked blocked' = (faults ≤ faults') × Rose faults faults' × (blocked ≤ blocked')
-HasReadCause (Err Memory) faults faults' blocked blocked' = (faults' ≡ faults) × (blocked ≤ blocked')
-
--- A call that puts: `Fault` comes only where the count of faults rose, or, that as it was, the count of blocked puts. No other
--- answer moves the count of faults. Neither count falls.
-abbrev pub HasPutCause : {T : Type 0} → Result T ObjectFault → ℕ → ℕ → ℕ → ℕ → Type 0
-HasPutCause (Ok x) faults faults' blocked blocked' = (faults' ≡ faults) × (blocked ≤ blocked')
-HasPutCause (Err Missing) faults faults' blocked blocked' = (faults' ≡ faults) × (blocked ≤ blocked')
-HasPutCause (Err (TooLarge length)) faults faults' blocked blocked' = (faults' ≡ faults) × (blocked ≤ blocked')
-HasPutCause (Err (WrongHash id found)) faults faults' blocked blocked' = (faults' ≡ faults) × (blocked ≤ blocked')
-HasPutCause (Err (BadText at)) faults faults' blocked blocked' = (faults' ≡ faults) × (blocked ≤ blocked')
-HasPutCause (Err (Collision id kept)) faults faults' blocked blocked' = (faults' ≡ faults) × (blocked ≤ blocked')
-HasPutCause (Err Fault) faults faults' blocked blocked' = (faults ≤ faults') × (blocked ≤ blocked') × (Rose faults faults' ⊎ ((faults' ≡ faults) × Rose blocked blocked'))
-HasPutCause (Err Memory) faults faults' blocked blocked' = (faults' ≡ faults) × (blocked ≤ blocked')
+abbrev pub object_cause : ObjectFault → Cause
+object_cause Missing = ByNone
+object_cause (TooLarge length) = ByNone
+object_cause (WrongHash id found) = ByNone
+object_cause (BadText at) = ByNone
+object_cause (Collision id kept) = ByNone
+object_cause (Blocked path) = ByBlock
+object_cause Fault = ByFault
+object_cause Memory = ByNone
 
 -- the store failed, or memory ran out
 abbrev pub IsFaultOrMemory : ObjectFault → Type 0
@@ -42,5 +29,17 @@ IsFaultOrMemory (TooLarge length) = ⊥
 IsFaultOrMemory (WrongHash id found) = ⊥
 IsFaultOrMemory (BadText at) = ⊥
 IsFaultOrMemory (Collision id kept) = ⊥
+IsFaultOrMemory (Blocked path) = ⊥
 IsFaultOrMemory Fault = Unit {0}
 IsFaultOrMemory Memory = Unit {0}
+
+-- a fault with which an object is not put
+abbrev pub IsPutFault : ObjectFault → Type 0
+IsPutFault Missing = ⊥
+IsPutFault (TooLarge length) = Unit {0}
+IsPutFault (WrongHash id found) = Unit {0}
+IsPutFault (BadText at) = ⊥
+IsPutFault (Collision id kept) = Unit {0}
+IsPutFault (Blocked path) = Unit {0}
+IsPutFault Fault = Unit {0}
+IsPutFault Memory = Unit {0}

@@ -1,5 +1,6 @@
 pub mod Causes
 pub mod Reads
-pub mod Drafted
 pub mod Puts
 pub mod Prefixes
+pub mod Named
+pub mod Halts

@@ -6,7 +6,8 @@ ghost use Rattle.std.specs.Option.{option_to_list};
 ghost use Rattle.std.specs.Prelude.{◌≡◌, ◌≤◌, ◌∷◌, ◌++◌, [], IfErr, IfOk, MatchOption, codes, drop, false, length, map, take, true};
 ghost use Rattle.hex.specs.Hex.{is_hex_digit};
 ghost use Rattle.seq_base.specs.StorePaths.{IsStorePath};
-ghost use Rattle.objects.specs.Causes.{HasReadCause, IsFaultOrMemory};
+ghost use Rattle.seq_outside.specs.Seen.{Reads};
+ghost use Rattle.objects.specs.Causes.{IsFaultOrMemory, object_cause};
 ghost use Rattle.objects.specs.Prefixes.{AreIdsWith, IsPrefix, begins_with as begins_with_of, id_of_path as id_in_path, ids_among as ids_among_of, ids_with, is_object_path, is_prefix as is_prefix_of};
 
 use crate::fault::ObjectFault;
@@ -119,13 +120,12 @@ pub fn with_prefix<S: Store>(
     digits: &[u8],
 ) -> Result<Vec<Id>, ObjectFault>
     requires { IsPrefix digits.now }
-    ensures ids { S.told → IfOk result (λ ids. ids.items ≡ ids_with (S.content store.old) digits.now) }
+    ensures ids { S.told → IfOk result (λ ids. ids.items ≡ ids_with (S.seen store.old).content digits.now) }
 
     // It follows from `ids`.
-    ensures all { S.told → IfOk result (λ ids. AreIdsWith (S.content store.old) digits.now ids.items) }
+    ensures all { S.told → IfOk result (λ ids. AreIdsWith (S.seen store.old).content digits.now ids.items) }
     ensures err { IfErr result IsFaultOrMemory }
-    ensures same { S.told → S.content store.new ≡ S.content store.old }
-    ensures cause { HasReadCause result (S.faults store.old) (S.faults store.new) (S.blocked store.old) (S.blocked store.new) }
+    ensures reads { Reads S.told object_cause result (S.seen store.old) (S.seen store.new) }
 {
     let digits = lower(alloc, digits)?;
     let folder = folder_of(alloc, &digits)?;

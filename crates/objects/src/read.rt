@@ -3,8 +3,9 @@
 ghost use Rattle.std.specs.Prelude.{◌≡◌};
 ghost use Rattle.object_text.specs.Store.{object_at};
 ghost use Rattle.sha1.specs.Sha1.{sha1};
-ghost use Rattle.objects.specs.Causes.{HasReadCause};
-ghost use Rattle.objects.specs.Reads.{GivesObject, IsGot, Reads};
+ghost use Rattle.seq_outside.specs.Seen.{Reads};
+ghost use Rattle.objects.specs.Causes.{object_cause};
+ghost use Rattle.objects.specs.Reads.{GivesObject, IsGot, Reads as ReadsText};
 
 use crate::fault::ObjectFault;
 use crate::place::{CONTENT_LIMIT, path_of};
@@ -23,7 +24,7 @@ pub fn id_of_text(text: &[u8]) -> Id
 
 /// The object that the bytes of its file are.
 fn object_in(alloc: Global, text: &[u8], id: Id) -> Result<Object, ObjectFault>
-    ensures { Reads id text.now result }
+    ensures { ReadsText id text.now result }
 {
     let found = id_of_text(text);
     match parse_object(alloc, text) {
@@ -54,12 +55,11 @@ fn object_in(alloc: Global, text: &[u8], id: Id) -> Result<Object, ObjectFault>
 /// the text of an object whose content passes the limit; else WrongHash where the file has another id; else BadText where it
 /// is no text of an object.
 pub fn get<S: Store>(alloc: Global, store: &mut S, id: Id) -> Result<Object, ObjectFault>
-    ensures file { S.told → IsGot (S.content store.old) id result }
+    ensures file { S.told → IsGot (S.seen store.old).content id result }
 
     // It follows from `file`.
-    ensures object { S.told → GivesObject result (object_at (S.content store.old) id) }
-    ensures same { S.told → S.content store.new ≡ S.content store.old }
-    ensures cause { HasReadCause result (S.faults store.old) (S.faults store.new) (S.blocked store.old) (S.blocked store.new) }
+    ensures object { S.told → GivesObject result (object_at (S.seen store.old).content id) }
+    ensures reads { Reads S.told object_cause result (S.seen store.old) (S.seen store.new) }
 {
     let path = path_of(alloc, id)?;
     match store.get(alloc, &path)? {

@@ -2,23 +2,23 @@
 
 ghost use Rattle.std.specs.FinMap as map;
 ghost use Rattle.std.specs.Ordering.{eq_by_cmp};
-ghost use Rattle.std.specs.Prelude.{◌≡◌, ◌++◌, false, IfOk, IsErrOf, List, Some, true, ℕ};
+ghost use Rattle.std.specs.Prelude.{◌≡◌, ◌++◌, false, IfErr, IfOk, List, Some, ℕ};
 ghost use Rattle.std.specs.Str.{bytes_eq};
-ghost use Rattle.object_text.specs.Objects.{object_text as text_of_object};
-ghost use Rattle.object_text.specs.Store.{object_at, object_id, object_path};
-ghost use Rattle.seq_base.specs.Repository.{IsRepository};
+ghost use Rattle.object_text.specs.Store.{object_at, object_id};
+ghost use Rattle.seq_base.specs.Repository.{object_path};
+ghost use Rattle.seq_base.specs.StorePaths.{IsStorePath};
 ghost use Rattle.seq_base.specs.World.{path_cmp};
-ghost use Rattle.seq_outside.specs.Causes.{Rose};
+ghost use Rattle.seq_outside.specs.Seen.{Writes};
 ghost use Rattle.sha1.specs.Sha1.{sha1};
-ghost use Rattle.objects.specs.Causes.{HasPutCause};
-ghost use Rattle.objects.specs.Puts.{HasOther, HasPut, object_of};
+ghost use Rattle.objects.specs.Causes.{IsPutFault, object_cause};
+ghost use Rattle.objects.specs.Puts.{HasOther, HasPut, HasTextPut, object_of};
 
 use crate::fault::ObjectFault;
 use crate::place::{CONTENT_LIMIT, path_of};
 use crate::read::id_of_text;
 use object_text::{Kind, object_header};
 use seq_base::{Bytes, Id};
-use seq_outside::Store;
+use seq_outside::{Store, StoreError};
 use sha1::Sha1;
 use std::alloc::Global;
 
@@ -57,22 +57,47 @@ fn other_kept(kept: Vec<u8>, id: Id) -> ObjectFault
     }
 }
 
+/// Puts the text of an object where no file stands.
+fn put_text<S: Store>(
+    alloc: Global,
+    store: &mut S,
+    id: Id,
+    path: Vec<u8>,
+    text: &[u8],
+) -> Result<Id, ObjectFault>
+    requires { IsStorePath path.items }
+    ensures put { S.told → HasTextPut (S.seen store.old).content id path.items text.now result (S.seen store.new).content }
+    ensures id { IfOk result (λ answer. answer ≡ id) }
+    ensures err { IfErr result IsPutFault }
+    ensures writes { Writes S.told object_cause result (S.seen store.old) (S.seen store.new) }
+{
+    match store.put(alloc, &path, text) {
+        Ok(()) => Ok(id),
+        Err(StoreError::Failed) => Err(ObjectFault::Fault),
+        Err(StoreError::Blocked) => Err(ObjectFault::Blocked {
+            path: Bytes::from_vec(path),
+        }),
+        Err(StoreError::Memory) => Err(ObjectFault::Memory),
+    }
+}
+
 /// Puts an object into its file, and answers its id (git-hash-object(1), `-w`). An equal file is left alone. TooLarge where the
-/// content passes the limit; where other bytes stand in the file, WrongHash if they have another id, else Collision.
+/// content passes the limit; where other bytes stand in the file, WrongHash if they have another id, else Collision; Blocked where
+/// another file is in its way.
 pub fn put<S: Store>(
     alloc: Global,
     store: &mut S,
     kind: Kind,
     bytes: &[u8],
 ) -> Result<Id, ObjectFault>
-    ensures put { S.told → HasPut (S.content store.old) (object_of kind bytes.now) result (S.content store.new) }
+    ensures put { S.told → HasPut (S.seen store.old).content (object_of kind bytes.now) result (S.seen store.new).content }
+    ensures id { IfOk result (λ id. id ≡ object_id (object_of kind bytes.now)) }
+    ensures err { IfErr result IsPutFault }
 
     // They follow from `put`.
-    ensures object { S.told → IfOk result (λ id. object_at (S.content store.new) id ≡ Some (object_of kind bytes.now)) }
-    ensures elsewhere { S.told → (other : List ℕ) → eq_by_cmp path_cmp other (object_path (object_id (object_of kind bytes.now))) ≡ false → map.get (S.content store.new) other ≡ map.get (S.content store.old) other }
-    ensures stays { S.told → IsRepository (S.content store.old) → IsRepository (S.content store.new) }
-    ensures cause { HasPutCause result (S.faults store.old) (S.faults store.new) (S.blocked store.old) (S.blocked store.new) }
-    ensures repository { S.told → IsRepository (S.content store.old) → IsErrOf result ObjectFault.Fault → Rose (S.faults store.old) (S.faults store.new) }
+    ensures object { S.told → IfOk result (λ id. object_at (S.seen store.new).content id ≡ Some (object_of kind bytes.now)) }
+    ensures elsewhere { S.told → (other : List ℕ) → eq_by_cmp path_cmp other (object_path (object_id (object_of kind bytes.now))) ≡ false → map.get (S.seen store.new).content other ≡ map.get (S.seen store.old).content other }
+    ensures writes { Writes S.told object_cause result (S.seen store.old) (S.seen store.new) }
 {
     if bytes.len() > CONTENT_LIMIT {
         return Err(ObjectFault::TooLarge {
@@ -86,8 +111,7 @@ pub fn put<S: Store>(
         None => {
             let mut text = header;
             text.extend_from_slice(bytes)?;
-            store.put(alloc, &path, &text)?;
-            Ok(id)
+            put_text(alloc, store, id, path, &text)
         }
         Some(kept) => {
             if is_same(&kept, &header, bytes) {

@@ -15,7 +15,7 @@ use Rattle.object_text.specs.Trees.{IsTreeOrder}
 use Rattle.path_trees.specs.Reads.{Blames}
 use Rattle.path_trees.specs.Rows.{HasAdded, IsInside, Rows, row_at}
 use Rattle.path_trees.specs.declared.fault.TreeFault.{TreeFault}
-use Rattle.path_trees.specs.declared.fault.TreeFault.TheVariants.{BadObject, TooLarge, Depth, Fault, Memory}
+use Rattle.path_trees.specs.declared.fault.TreeFault.TheVariants.{BadObject, TooLarge, Depth, Blocked, Fault, Memory}
 use Rattle.path_trees.proofs.Order.{AreInOrder, IsApart, IsUnder, Precedes, rows_in_order, tail}
 
 -- ---- maps, one after the other
@@ -178,6 +178,7 @@ pub build_blames : (w : World) (told : Type 0) (folder : List â„•) (sub : List â
 build_blames w told folder sub total old now x left (BadObject id) built t is = (build_fails told folder sub total old now x left (BadTree id) built t is.0, is.1)
 build_blames w told folder sub total old now x left (TooLarge count) built t is = (is.0, build_fails told folder sub total old now x left (BadTree is.0) built t is.1, is.2)
 build_blames w told folder sub total old now x left Depth built t is = build_fails told folder sub total old now x left TooDeep built t is
+build_blames w told folder sub total old now x left (Blocked path) built t is = absurd is
 build_blames w told folder sub total old now x left Fault built t is = tt
 build_blames w told folder sub total old now x left Memory built t is = tt
 

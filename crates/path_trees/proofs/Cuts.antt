@@ -4,7 +4,7 @@ use Rattle.std.specs.List.{AllByRecursion, starts_with}
 use Rattle.std.proofs.lemmas.List.{take_rest}
 use Rattle.seq_base.specs.declared.map.Entry.{Entry}
 use Rattle.seq_outside.proofs.Firsts.{first_and_others}
-use Rattle.path_trees.specs.Drafts.{count_inside, cut, is_inside}
+use Rattle.path_trees.specs.Puts.{count_inside, cut, is_inside}
 use Rattle.path_trees.specs.Rows.{Rows}
 
 module _ (folder : List ℕ) (skip : ℕ) (rest : Rows) (x : List ℕ × Entry) (some : 0 < length rest) (is : x ≡ get_or rest 0 x) where

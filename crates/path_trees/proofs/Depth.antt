@@ -9,7 +9,7 @@ use Rattle.object_text.specs.TreeMaps.{MapFault, BadTree, TooDeep, entries_map, 
 use Rattle.path_trees.specs.Reads.{Blames, GivesTree}
 use Rattle.path_trees.specs.Rows.{GivesRows, Rows, has_path}
 use Rattle.path_trees.specs.declared.fault.TreeFault.{TreeFault}
-use Rattle.path_trees.specs.declared.fault.TreeFault.TheVariants.{BadObject, TooLarge, Depth, Fault, Memory}
+use Rattle.path_trees.specs.declared.fault.TreeFault.TheVariants.{BadObject, TooLarge, Depth, Blocked, Fault, Memory}
 use Rattle.path_trees.proofs.Build.{first_of}
 use Rattle.path_trees.proofs.Trees.{small_tree}
 
@@ -40,6 +40,7 @@ pub tree_blames : (n : ℕ) (w : World) (folder id : List ℕ) (e : TreeFault) �
 tree_blames n w folder id (BadObject bad) lt is = subst (λ (i : List ℕ). Blames w (BadObject i) (map_below n w folder id)) (sym is.0) (at_none n w folder id lt is.1, is.2)
 tree_blames n w folder id (TooLarge count) lt is = (id, at_none n w folder id lt is.0, is.1)
 tree_blames n w folder id Depth lt is = absurd is
+tree_blames n w folder id (Blocked path) lt is = absurd is
 tree_blames n w folder id Fault lt is = tt
 tree_blames n w folder id Memory lt is = tt
 
@@ -48,6 +49,7 @@ pub rows_blame : (n : ℕ) (w : World) (folder id : List ℕ) (es : List TreeEnt
 rows_blame n w folder id es (BadObject bad) lt some is = subst (λ (i : List ℕ). Blames w (BadObject i) (map_below n w folder id)) (sym is.0) (at_bad n w folder id es lt some is.1, small_tree w id es some)
 rows_blame n w folder id es (TooLarge count) lt some is = absurd is
 rows_blame n w folder id es Depth lt some is = absurd is
+rows_blame n w folder id es (Blocked path) lt some is = absurd is
 rows_blame n w folder id es Fault lt some is = absurd is
 rows_blame n w folder id es Memory lt some is = tt
 

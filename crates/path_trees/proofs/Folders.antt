@@ -12,24 +12,24 @@ use Rattle.std.proofs.lemmas.List.Sums.{AllPass-from_list_all, passes_at_first, 
 use Rattle.std.proofs.lemmas.Slice.Eq.{starts_is}
 use Rattle.seq_base.specs.Paths.{IsPath, parts}
 use Rattle.seq_base.specs.PathMaps.{HoldsFiles, IsPathMap}
+use Rattle.seq_base.specs.Words.{Id}
 use Rattle.seq_base.specs.World.{World}
-use Rattle.seq_base.specs.declared.id.Id.{Id}
 use Rattle.seq_base.specs.declared.map.Entry.{Entry}
 use Rattle.seq_base.specs.declared.mode.Mode.{Mode}
 use Rattle.seq_base.specs.declared.mode.Mode.TheVariants.{File, Exec, Link, Gitlink, Folder}
-use Rattle.seq_outside.specs.Writes.{written}
-use Rattle.seq_outside.specs.declared.write.Write.{Write}
+use Rattle.seq_outside.specs.Turns.{gives, go_on}
+use Rattle.seq_outside.specs.declared.lack.Lack.{Lack}
 use Rattle.object_text.specs.declared.tree.TreeEntry.{TreeEntry}
-use Rattle.object_text.specs.TreeMaps.{Listing, OneFile, OneFolder, PutFault, and_then, folder_trees, is_folder, listing_of, put_tree, put_trees, root_of, tree_entries, tree_id, trees_of}
+use Rattle.object_text.specs.TreeMaps.{Listing, OneFile, OneFolder, folder_trees, is_folder, listing_of, root_of, tree_entries, tree_id, tree_object, trees_of}
 use Rattle.object_text.specs.Trees.{HaveIds, IsTreeOrder, is_name}
-use Rattle.path_trees.specs.Drafts.{AddsObjects, GoesOnBehind, IsDraftedAs, count_inside, cut, is_inside}
+use Rattle.objects.specs.Puts.{object_put}
+use Rattle.path_trees.specs.Puts.{GoesOnBehind, HasPut, StaysElsewhere, count_inside, cut, each_put, folder_put, is_inside}
 use Rattle.path_trees.specs.Rows.{Rows}
 use Rattle.path_trees.specs.declared.fault.TreeFault.{TreeFault}
-use Rattle.path_trees.specs.declared.fault.TreeFault.TheVariants.{BadObject, TooLarge, Depth, Fault, Memory}
-use Rattle.path_trees.proofs.Added.{adds_more, adds_none}
+use Rattle.path_trees.specs.declared.fault.TreeFault.TheVariants.{BadObject, TooLarge, Depth, Blocked, Fault, Memory}
 use Rattle.path_trees.proofs.Listings.{AreFiles, HaveNames, IsOther, file_listed, folder_listed, in_front, listing_whole, other_listed, parts_in_front, rows_listed}
 use Rattle.path_trees.proofs.Order.{has_no_slash}
-use Rattle.path_trees.proofs.Puts.{put_trees-append, put_trees-none, put_trees-one}
+use Rattle.path_trees.proofs.Puts.{each_put-append, each_put-none, each_put-one, unit}
 use Rattle.path_trees.proofs.TreeOrder.{AllApart, all_back, all_front, apart_back, apart_front, apart_inner, apart_map, map_apart, tree_ordered}
 
 -- ---- lists
@@ -289,47 +289,64 @@ join_ids : (rows later : Rows) → HaveRowIds rows → HaveRowIds later → Have
 join_ids [] later own more = more
 join_ids (e ∷ es) later own more = (own.0, join_ids es later own.1 more)
 
--- ---- what was drafted so far
+-- ---- what was put so far
 
--- the entries so far and those of the rows left are the folder's; the trees so far are in the draft, and then come those of the rows left
-pub record IsWay (told : Type 0) (content : World) (skip : ℕ) (rows left : Rows) (entries : List TreeEntry) (old now : List Write) : Type 0 where
+-- The entries so far and those of the rows left are the folder's; the trees so far were put, and then come those of the rows left.
+pub record IsWay (told : Type 0) (skip : ℕ) (rows left : Rows) (entries : List TreeEntry) (old now : World) : Type 0 where
   pub goes : GoesOnBehind skip left
   pub entries_are : tree_entries (listing_of (cut skip rows)) ≡ entries ++ tree_entries (listing_of (cut skip left))
-  pub trees_are : told → put_trees (written content old) (folder_trees (listing_of (cut skip rows))) ≡ put_trees (written content now) (folder_trees (listing_of (cut skip left)))
-  pub adds : AddsObjects old now
+  pub trees_are : told → each_put (folder_trees (listing_of (cut skip rows))) old ≡ each_put (folder_trees (listing_of (cut skip left))) now
+  pub stays : told → StaysElsewhere old now
   pub ids : HaveIds entries → HaveRowIds left → HaveRowIds rows
 
-pub way_starts : (told : Type 0) (content : World) (skip : ℕ) (rows : Rows) (writes : List Write) → GoesOnBehind skip rows → IsWay told content skip rows rows [] writes writes
-way_starts told content skip rows writes goes = record { goes = goes; entries_are = refl; trees_are = λ t. refl; adds = adds_none writes; ids = λ own all. all }
+pub way_starts : (told : Type 0) (skip : ℕ) (rows : Rows) (w : World) → GoesOnBehind skip rows → IsWay told skip rows rows [] w w
+way_starts told skip rows w goes = record { goes = goes; entries_are = refl; trees_are = λ t. refl; stays = λ t path other. refl; ids = λ own all. all }
 
-pub way_file : (told : Type 0) (content : World) (skip : ℕ) (rows left after : Rows) (x : List ℕ × Entry) (path : List ℕ) (entries : List TreeEntry) (old now : List Write)
-    → IsWay told content skip rows left entries old now → left ≡ x ∷ after → path ≡ drop skip x.0 → position (λ b. b == 47) path ≡ None
-    → IsWay told content skip rows after (entries ++ record { mode = x.1.mode; name = path; id = x.1.id } ∷ []) old now
+pub way_file : (told : Type 0) (skip : ℕ) (rows left after : Rows) (x : List ℕ × Entry) (path : List ℕ) (entries : List TreeEntry) (old now : World)
+    → IsWay told skip rows left entries old now → left ≡ x ∷ after → path ≡ drop skip x.0 → position (λ b. b == 47) path ≡ None
+    → IsWay told skip rows after (entries ++ record { mode = x.1.mode; name = path; id = x.1.id } ∷ []) old now
 unfolding tree_entries folder_trees
-way_file told content skip rows left after x path entries old now way left_is path_is none =
+way_file told skip rows left after x path entries old now way left_is path_is none =
     let listed : listing_of (cut skip left) ≡ OneFile path x.1 (listing_of (cut skip after)) =
     ap (λ (rs : Rows). listing_of (cut skip rs)) left_is ∙ (ap (λ (p : List ℕ). listing_of ((p, x.1) ∷ cut skip after)) (sym path_is) ∙ file_listed path x.1 (cut skip after) (no_slash_found path none)) in
     record {
       goes = goes_back skip (x ∷ []) after (subst (GoesOnBehind skip) left_is way.goes);
       entries_are = way.entries_are ∙ (ap (λ (l : Listing). entries ++ tree_entries l) listed ∙ sym (append_assoc entries (record { mode = x.1.mode; name = path; id = x.1.id } ∷ []) (tree_entries (listing_of (cut skip after)))));
-      trees_are = λ t. way.trees_are t ∙ ap (λ (l : Listing). put_trees (written content now) (folder_trees l)) listed;
-      adds = way.adds;
+      trees_are = λ t. way.trees_are t ∙ ap (λ (l : Listing). each_put (folder_trees l) now) listed;
+      stays = way.stays;
       ids = λ own all.
           let both = split_ids entries (record { mode = x.1.mode; name = path; id = x.1.id } ∷ []) own in
           way.ids both.0 (subst HaveRowIds (sym left_is) (both.1.0, all));
     }
 
 -- the subtree's trees come first
-subtree_first : (w : World) (its others : Listing) (folder : List ℕ) → put_trees w (folder_trees (OneFolder folder its others)) ≡ and_then (put_trees w (folder_trees its ++ tree_entries its ∷ [])) (λ next. put_trees next (folder_trees others))
+subtree_first : (w : World) (its others : Listing) (folder : List ℕ) → each_put (folder_trees (OneFolder folder its others)) w ≡ go_on (each_put (folder_trees its ++ tree_entries its ∷ []) w) (λ put. each_put (folder_trees others))
 unfolding folder_trees
-subtree_first w its others folder = ap (put_trees w) (sym (append_assoc (folder_trees its) (tree_entries its ∷ []) (folder_trees others))) ∙ put_trees-append w (folder_trees its ++ tree_entries its ∷ []) (folder_trees others)
+subtree_first w its others folder =
+    ap (λ (trees : List (List TreeEntry)). each_put trees w) (sym (append_assoc (folder_trees its) (tree_entries its ∷ []) (folder_trees others))) ∙ each_put-append (folder_trees its ++ tree_entries its ∷ []) (folder_trees others) w
 
-pub way_folder : (told : Type 0) (content here : World) (skip next : ℕ) (rows left inside others : Rows) (name id : List ℕ) (entries : List TreeEntry) (old now new : List Write)
-    → IsWay told content skip rows left entries old now → HasGroup name skip next left inside others → (told → here ≡ content) → id ≡ root_of (cut next inside) → AddsObjects now new → HaveRowIds inside
-    → (told → IsDraftedAs (root_of (cut next inside)) (put_trees (written here now) (trees_of (cut next inside))) (Ok id) (written here new))
-    → IsWay told content skip rows others (entries ++ record { mode = Folder; name = name; id = id } ∷ []) old new
+-- the trees of a folder that was put, and of one that was not
+pub was_folder_put : (rows : Rows) (w : World) (id : Id) (now : World) → folder_put rows w ≡ Ok (id, now) → each_put (trees_of rows) w ≡ Ok (unit, now)
+unfolding folder_put
+was_folder_put rows w id now is = by (each_put (trees_of rows) w) is
+  where
+    by : (put : Result (Unit {0} × World) Lack) → go_on put (λ all. gives (root_of rows)) ≡ Ok (id, now) → put ≡ Ok (unit, now)
+    by (Ok turned) is = let both : (root_of rows, turned.1) ≡ (id, now) = cc in ap (λ (p : Id × World). Ok (unit, p.1)) both
+    by (Err why) is = absurd cc
+
+was_not_put : (rows : Rows) (w : World) (why : Lack) → folder_put rows w ≡ Err why → each_put (trees_of rows) w ≡ Err why
+unfolding folder_put
+was_not_put rows w why is = by (each_put (trees_of rows) w) is
+  where
+    by : (put : Result (Unit {0} × World) Lack) → go_on put (λ all. gives (root_of rows)) ≡ Err why → put ≡ Err why
+    by (Ok turned) is = absurd cc
+    by (Err other) is = let same : other ≡ why = cc in ap (λ (l : Lack). Err l) same
+
+pub way_folder : (told : Type 0) (skip next : ℕ) (rows left inside others : Rows) (name id : List ℕ) (entries : List TreeEntry) (old now new : World)
+    → IsWay told skip rows left entries old now → HasGroup name skip next left inside others → id ≡ root_of (cut next inside) → (told → StaysElsewhere now new) → HaveRowIds inside
+    → (told → HasPut (Ok id) (folder_put (cut next inside) now) new) → IsWay told skip rows others (entries ++ record { mode = Folder; name = name; id = id } ∷ []) old new
 unfolding tree_entries root_of trees_of
-way_folder told content here skip next rows left inside others name id entries old now new way group same root adds inner_ids drafted = record {
+way_folder told skip next rows left inside others name id entries old now new way group root stays inner_ids put = record {
   goes = group.outer;
   entries_are =
       way.entries_are
@@ -337,76 +354,78 @@ way_folder told content here skip next rows left inside others name id entries o
       ∙ (ap (λ (i : List ℕ). entries ++ record { mode = Folder; name = name; id = i } ∷ tree_entries (listing_of (cut skip others))) (sym root)
       ∙ sym (append_assoc entries (record { mode = Folder; name = name; id = id } ∷ []) (tree_entries (listing_of (cut skip others))))));
   trees_are = λ t.
-      let put = subst (λ (w : World). put_trees (written w now) (trees_of (cut next inside)) ≡ Ok (written w new)) (same t) (drafted t).1 in
       way.trees_are t
-      ∙ (ap (λ (l : Listing). put_trees (written content now) (folder_trees l)) group.listed
-      ∙ (subtree_first (written content now) (listing_of (cut next inside)) (listing_of (cut skip others)) name
-      ∙ ap (λ (r : Result World PutFault). and_then r (λ w. put_trees w (folder_trees (listing_of (cut skip others))))) put));
-  adds = adds_more old now new way.adds adds;
+      ∙ (ap (λ (l : Listing). each_put (folder_trees l) now) group.listed
+      ∙ (subtree_first now (listing_of (cut next inside)) (listing_of (cut skip others)) name
+      ∙ ap (λ (r : Result (Unit {0} × World) Lack). go_on r (λ all. each_put (folder_trees (listing_of (cut skip others))))) (was_folder_put (cut next inside) now id new (put t))));
+  stays = λ t path other. stays t path other ∙ way.stays t path other;
   ids = λ own all. way.ids (split_ids entries (record { mode = Folder; name = name; id = id } ∷ []) own).0 (subst HaveRowIds (sym group.whole) (join_ids inside others inner_ids all));
 }
 
--- what is answered of other trees is answered of these, where they fail alike
-pub fails_alike : (root other : List ℕ) (means later : Result World PutFault) (e : TreeFault) (now new : World) → ((fault : PutFault) → means ≡ Err fault → later ≡ Err fault) → IsDraftedAs root means (Err e) now → IsDraftedAs other later (Err e) new
-fails_alike root other means later (BadObject id) now new alike is = alike _ is
-fails_alike root other means later (TooLarge count) now new alike is = alike _ is
-fails_alike root other means later Depth now new alike is = tt
-fails_alike root other means later Fault now new alike is = tt
-fails_alike root other means later Memory now new alike is = tt
+-- what is answered of one step is answered of another, where they stop alike
+stops_alike : (means later : Result (Id × World) Lack) (e : TreeFault) (now new : World) → ((why : Lack) → means ≡ Err why → later ≡ Err why) → HasPut (Err e) means now → HasPut (Err e) later new
+stops_alike means later (BadObject id) now new alike is = alike _ is
+stops_alike means later (TooLarge count) now new alike is = alike _ is
+stops_alike means later Depth now new alike is = alike _ is
+stops_alike means later (Blocked path) now new alike is = alike _ is
+stops_alike means later Fault now new alike is = tt
+stops_alike means later Memory now new alike is = tt
 
-all_trees : (w : World) (listing : Listing) → put_trees w (folder_trees listing ++ tree_entries listing ∷ []) ≡ and_then (put_trees w (folder_trees listing)) (λ next. put_trees next (tree_entries listing ∷ []))
-all_trees w listing = put_trees-append w (folder_trees listing) (tree_entries listing ∷ [])
+all_trees : (w : World) (listing : Listing) → each_put (folder_trees listing ++ tree_entries listing ∷ []) w ≡ go_on (each_put (folder_trees listing) w) (λ put. each_put (tree_entries listing ∷ []))
+all_trees w listing = each_put-append (folder_trees listing) (tree_entries listing ∷ []) w
 
-pub way_fails : (told : Type 0) (content here : World) (skip next : ℕ) (rows left inside others : Rows) (name : List ℕ) (entries : List TreeEntry) (old now : List Write) (e : TreeFault) (new then : World)
-    → IsWay told content skip rows left entries old now → HasGroup name skip next left inside others → told → here ≡ content
-    → IsDraftedAs (root_of (cut next inside)) (put_trees (written here now) (trees_of (cut next inside))) (Err e) new
-    → IsDraftedAs (root_of (cut skip rows)) (put_trees (written content old) (trees_of (cut skip rows))) (Err e) then
-unfolding trees_of
-way_fails told content here skip next rows left inside others name entries old now e new then way group t same drafted =
-    fails_alike (root_of (cut next inside)) (root_of (cut skip rows)) (put_trees (written here now) (trees_of (cut next inside))) (put_trees (written content old) (trees_of (cut skip rows))) e new then
-    (λ fault bad.
-    let put = subst (λ (w : World). put_trees (written w now) (trees_of (cut next inside)) ≡ Err fault) same bad in
-    let folders : put_trees (written content old) (folder_trees (listing_of (cut skip rows))) ≡ Err fault =
-    way.trees_are t
-    ∙ (ap (λ (l : Listing). put_trees (written content now) (folder_trees l)) group.listed
-    ∙ (subtree_first (written content now) (listing_of (cut next inside)) (listing_of (cut skip others)) name
-    ∙ ap (λ (r : Result World PutFault). and_then r (λ w. put_trees w (folder_trees (listing_of (cut skip others))))) put)) in
-    all_trees (written content old) (listing_of (cut skip rows)) ∙ ap (λ (r : Result World PutFault). and_then r (λ w. put_trees w (tree_entries (listing_of (cut skip rows)) ∷ []))) folders)
-    drafted
+pub way_stops : (told : Type 0) (skip next : ℕ) (rows left inside others : Rows) (name : List ℕ) (entries : List TreeEntry) (old now : World) (e : TreeFault) (new : World)
+    → IsWay told skip rows left entries old now → HasGroup name skip next left inside others → told → HasPut (Err e) (folder_put (cut next inside) now) new → HasPut (Err e) (folder_put (cut skip rows) old) new
+unfolding trees_of folder_put
+way_stops told skip next rows left inside others name entries old now e new way group t put = stops_alike (folder_put (cut next inside) now) (folder_put (cut skip rows) old) e new new stops put
+  where
+    stops : (why : Lack) → folder_put (cut next inside) now ≡ Err why → folder_put (cut skip rows) old ≡ Err why
+    stops why is =
+        let folders : each_put (folder_trees (listing_of (cut skip rows))) old ≡ Err why =
+        way.trees_are t
+        ∙ (ap (λ (l : Listing). each_put (folder_trees l) now) group.listed
+        ∙ (subtree_first now (listing_of (cut next inside)) (listing_of (cut skip others)) name
+        ∙ ap (λ (r : Result (Unit {0} × World) Lack). go_on r (λ all. each_put (folder_trees (listing_of (cut skip others))))) (was_not_put (cut next inside) now why is))) in
+        ap (λ (r : Result (Unit {0} × World) Lack). go_on r (λ all. gives (root_of (cut skip rows))))
+        (all_trees old (listing_of (cut skip rows)) ∙ ap (λ (r : Result (Unit {0} × World) Lack). go_on r (λ all. each_put (tree_entries (listing_of (cut skip rows)) ∷ []))) folders)
 
 -- at the end the folder's own tree comes
-ends_with_tree : (told : Type 0) (content : World) (skip : ℕ) (rows : Rows) (entries : List TreeEntry) (old now : List Write) → IsWay told content skip rows [] entries old now → told
-    → put_trees (written content old) (trees_of (cut skip rows)) ≡ put_tree (written content now) (tree_entries (listing_of (cut skip rows)))
-unfolding trees_of folder_trees listing_of
-ends_with_tree told content skip rows entries old now way t =
-    all_trees (written content old) (listing_of (cut skip rows))
-    ∙ (ap (λ (r : Result World PutFault). and_then r (λ w. put_trees w (tree_entries (listing_of (cut skip rows)) ∷ []))) (way.trees_are t ∙ put_trees-none (written content now))
-    ∙ put_trees-one (written content now) (tree_entries (listing_of (cut skip rows))))
+ends_with_tree : (told : Type 0) (skip : ℕ) (rows : Rows) (entries : List TreeEntry) (old now : World) → IsWay told skip rows [] entries old now → told
+    → folder_put (cut skip rows) old ≡ go_on (go_on (object_put (tree_object (tree_entries (listing_of (cut skip rows)))) now) (λ id. gives unit)) (λ all. gives (root_of (cut skip rows)))
+unfolding trees_of folder_trees listing_of folder_put
+ends_with_tree told skip rows entries old now way t =
+    ap (λ (r : Result (Unit {0} × World) Lack). go_on r (λ all. gives (root_of (cut skip rows))))
+    (all_trees old (listing_of (cut skip rows))
+    ∙ (ap (λ (r : Result (Unit {0} × World) Lack). go_on r (λ all. each_put (tree_entries (listing_of (cut skip rows)) ∷ []))) (way.trees_are t ∙ each_put-none now)
+    ∙ each_put-one (tree_entries (listing_of (cut skip rows))) now))
 
-pub all_entries : (told : Type 0) (content : World) (skip : ℕ) (rows : Rows) (entries : List TreeEntry) (old now : List Write) → IsWay told content skip rows [] entries old now → tree_entries (listing_of (cut skip rows)) ≡ entries
+pub all_entries : (told : Type 0) (skip : ℕ) (rows : Rows) (entries : List TreeEntry) (old now : World) → IsWay told skip rows [] entries old now → tree_entries (listing_of (cut skip rows)) ≡ entries
 unfolding tree_entries listing_of
-all_entries told content skip rows entries old now way = way.entries_are ∙ append-nil entries
+all_entries told skip rows entries old now way = way.entries_are ∙ append-nil entries
 
-pub way_ordered : (told : Type 0) (content : World) (skip : ℕ) (rows : Rows) (entries : List TreeEntry) (old now : List Write) → GoesOnBehind skip rows → IsWay told content skip rows [] entries old now → IsTreeOrder entries
-way_ordered told content skip rows entries old now goes way = subst IsTreeOrder (all_entries told content skip rows entries old now way) (map_ordered (cut skip rows) goes.names goes.is_map)
+pub way_ordered : (told : Type 0) (skip : ℕ) (rows : Rows) (entries : List TreeEntry) (old now : World) → GoesOnBehind skip rows → IsWay told skip rows [] entries old now → IsTreeOrder entries
+way_ordered told skip rows entries old now goes way = subst IsTreeOrder (all_entries told skip rows entries old now way) (map_ordered (cut skip rows) goes.names goes.is_map)
 
-root_is : (told : Type 0) (content : World) (skip : ℕ) (rows : Rows) (entries : List TreeEntry) (old now : List Write) → IsWay told content skip rows [] entries old now → tree_id entries ≡ root_of (cut skip rows)
+root_is : (told : Type 0) (skip : ℕ) (rows : Rows) (entries : List TreeEntry) (old now : World) → IsWay told skip rows [] entries old now → tree_id entries ≡ root_of (cut skip rows)
 unfolding root_of
-root_is told content skip rows entries old now way = ap tree_id (sym (all_entries told content skip rows entries old now way))
+root_is told skip rows entries old now way = ap tree_id (sym (all_entries told skip rows entries old now way))
 
-pub way_root : (told : Type 0) (content : World) (skip : ℕ) (rows : Rows) (entries : List TreeEntry) (old now : List Write) (r : Result Id TreeFault) → IsWay told content skip rows [] entries old now → IfOk r (λ id. id ≡ tree_id entries) → IfOk r (λ id. id ≡ root_of (cut skip rows))
-way_root told content skip rows entries old now (Ok id) way is = is ∙ root_is told content skip rows entries old now way
-way_root told content skip rows entries old now (Err e) way is = tt
+pub way_root : (told : Type 0) (skip : ℕ) (rows : Rows) (entries : List TreeEntry) (old now : World) (r : Result Id TreeFault) → IsWay told skip rows [] entries old now → IfOk r (λ id. id ≡ tree_id entries) → IfOk r (λ id. id ≡ root_of (cut skip rows))
+way_root told skip rows entries old now (Ok id) way is = is ∙ root_is told skip rows entries old now way
+way_root told skip rows entries old now (Err e) way is = tt
 
-pub way_ends : (told : Type 0) (content here : World) (skip : ℕ) (rows : Rows) (entries : List TreeEntry) (old now : List Write) (r : Result Id TreeFault) (new : List Write) → IsWay told content skip rows [] entries old now → told → here ≡ content
-    → IsDraftedAs (tree_id entries) (put_tree (written here now) entries) r (written here new) → IsDraftedAs (root_of (cut skip rows)) (put_trees (written content old) (trees_of (cut skip rows))) r (written content new)
-way_ends told content here skip rows entries old now r new way t same drafted =
-    let entries_are = all_entries told content skip rows entries old now way in
-    let root = root_is told content skip rows entries old now way in
-    let trees = ends_with_tree told content skip rows entries old now way t ∙ ap (put_tree (written content now)) entries_are in
-    subst (λ (i : List ℕ). IsDraftedAs i (put_trees (written content old) (trees_of (cut skip rows))) r (written content new)) root
-    (subst (λ (m : Result World PutFault). IsDraftedAs (tree_id entries) m r (written content new)) (sym trees)
-    (subst (λ (w : World). IsDraftedAs (tree_id entries) (put_tree (written w now) entries) r (written w new)) same drafted))
+-- what is answered of the last tree is answered of all
+tree_ends : (root : Id) (means : Result (Id × World) Lack) (r : Result Id TreeFault) (new : World) → IfOk r (λ id. id ≡ root) → HasPut r means new → HasPut r (go_on (go_on means (λ id. gives unit)) (λ all. gives root)) new
+tree_ends root means (Ok id) new root_is put = rw put (ap (λ (i : Id). Ok (i, new)) (sym root_is))
+tree_ends root means (Err e) new root_is put = stops_alike means (go_on (go_on means (λ id. gives unit)) (λ all. gives root)) e new new (λ why is. rw is refl) put
+
+pub way_ends : (told : Type 0) (skip : ℕ) (rows : Rows) (entries : List TreeEntry) (old now : World) (r : Result Id TreeFault) (new : World) → IsWay told skip rows [] entries old now → told → IfOk r (λ id. id ≡ tree_id entries)
+    → HasPut r (object_put (tree_object entries) now) new → HasPut r (folder_put (cut skip rows) old) new
+way_ends told skip rows entries old now r new way t root put =
+    let entries_are = all_entries told skip rows entries old now way in
+    let last = subst (λ (es : List TreeEntry). HasPut r (object_put (tree_object es) now) new) (sym entries_are) put in
+    subst (λ (m : Result (Id × World) Lack). HasPut r m new) (sym (ends_with_tree told skip rows entries old now way t))
+    (tree_ends (root_of (cut skip rows)) (object_put (tree_object (tree_entries (listing_of (cut skip rows)))) now) r new (way_root told skip rows entries old now r way root) last)
 
 pub nothing : (rows : Rows) → length rows ≡ 0 → rows ≡ []
 nothing [] none = refl
@@ -420,6 +439,6 @@ falls bytes skip at path slash =
     let within = slash.within in
     omega (arith, size, short, within)
 
-pub way_ids : (told : Type 0) (content : World) (skip : ℕ) (rows : Rows) (entries : List TreeEntry) (old now : List Write) (r : Result Id TreeFault) → IsWay told content skip rows [] entries old now → OnOk r (HaveIds entries) → OnOk r (HaveRowIds rows)
-way_ids told content skip rows entries old now (Ok id) way ids = way.ids ids tt
-way_ids told content skip rows entries old now (Err e) way ids = tt
+pub way_ids : (told : Type 0) (skip : ℕ) (rows : Rows) (entries : List TreeEntry) (old now : World) (r : Result Id TreeFault) → IsWay told skip rows [] entries old now → OnOk r (HaveIds entries) → OnOk r (HaveRowIds rows)
+way_ids told skip rows entries old now (Ok id) way ids = way.ids ids tt
+way_ids told skip rows entries old now (Err e) way ids = tt

@@ -5,10 +5,10 @@ pub mod Build
 pub mod Depth
 pub mod Listings
 pub mod Puts
-pub mod Added
 pub mod Cuts
 pub mod TreeOrder
 pub mod Folders
 pub mod PathNames
 pub mod ReadBack
 pub mod OneRoot
+pub mod Naming

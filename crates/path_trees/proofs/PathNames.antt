@@ -6,7 +6,7 @@ use Rattle.seq_base.specs.Paths.{IsPath, first_bad, is_part, is_special, parts}
 use Rattle.seq_base.specs.PathMaps.{IsPathMap}
 use Rattle.seq_base.proofs.CharFronts.{text_fits}
 use Rattle.object_text.specs.Trees.{is_name, is_name_byte}
-use Rattle.path_trees.specs.Drafts.{GoesOnBehind, cut}
+use Rattle.path_trees.specs.Puts.{GoesOnBehind, cut}
 use Rattle.path_trees.specs.Rows.{Rows}
 use Rattle.path_trees.proofs.Listings.{HaveNames}
 

@@ -1,74 +1,112 @@
 -- Putting one tree, and putting trees one after another.
 use Rattle.std.proofs.Common.{◌≡◌, ℕ, ◌<◌, ◌≤◌, Bool, true, false, cond, nat_lt, List, [], ◌∷◌, ◌++◌, length, map, Option, Some, None, Result, Ok, Err, refl, sym, ap, ◌∙◌, arith}
+use Rattle.std.specs.Prelude.{if◌then◌else◌}
+use Rattle.std.specs.FinMap as held
+use Rattle.std.specs.Str.{bytes_eq}
 use Rattle.std.proofs.lemmas.Bool.Decides.{nat_tests}
-use Rattle.seq_base.specs.World.{World}
-use Rattle.seq_base.specs.declared.id.Id.{Id}
+use Rattle.seq_base.specs.Words.{Id, Path, Text}
+use Rattle.seq_base.specs.World.{World, is_blocked}
+use Rattle.seq_outside.specs.Halts.{stop_if}
+use Rattle.seq_outside.specs.Turns.{◌>>=◌, gives, go_on, looked, looks, put_in}
+use Rattle.seq_outside.specs.declared.halt.Halt.TheVariants.{Stops}
+use Rattle.seq_outside.specs.declared.lack.Lack.{Lack}
+use Rattle.seq_outside.specs.declared.lack.Lack.TheVariants.{Limit, Place, Way}
+use Rattle.seq_outside.specs.declared.limit.LimitWhat.TheVariants.{ObjectBytes}
+use Rattle.object_text.specs.declared.object.Object.{Object}
+use Rattle.object_text.specs.Objects.{object_text}
 use Rattle.object_text.specs.declared.tree.TreeEntry.{TreeEntry}
-use Rattle.object_text.specs.Store.{Put, content_limit, or_ended, put_all, put_object}
-use Rattle.object_text.specs.TreeMaps.{PutFault, IsLarge, IsTaken, and_then, put_tree, put_trees, tree_id, tree_object, unless_taken}
+use Rattle.object_text.specs.Store.{content_limit, object_id, or_ended, put_all, put_at, put_object}
+use Rattle.seq_base.specs.Repository.{object_path}
+use Rattle.object_text.specs.TreeMaps.{PutFault, IsLarge, IsTaken, and_then, put_tree, put_trees, tree_object, unless_taken}
 use Rattle.object_text.specs.Trees.{tree_text}
-use Rattle.objects.specs.Drafted.{HasLengthJudged, IsDrafted}
+use Rattle.objects.specs.Puts.{HasPut as HasObjectPut, object_over, object_put}
 use Rattle.objects.specs.declared.fault.ObjectFault.{ObjectFault}
 use Rattle.objects.specs.declared.fault.ObjectFault.TheVariants as objects
-use Rattle.path_trees.specs.Drafts.{IsDraftedAs}
+use Rattle.objects.proofs.Putting.{object_is_not_put}
+use Rattle.path_trees.specs.Puts.{HasPut, each_put}
 use Rattle.path_trees.specs.Faults.{put_fault_at}
+use Rattle.path_trees.specs.declared.fault.TreeFault.{TreeFault}
 
 -- ---- one tree
 
-module _ (w : World) (tree : List TreeEntry) where
-  large : content_limit < length (tree_text tree) → put_tree w tree ≡ Err (IsLarge (length (tree_text tree)))
-  unfolding put_tree
-  large above =
-      let so : nat_lt content_limit (length (tree_text tree)) ≡ true = grind (arith, nat_tests) in
-      ap (λ (t : Bool). cond t (Err (IsLarge (length (tree_text tree)))) (unless_taken (put_object w (tree_object tree)))) so
-
-  small : length (tree_text tree) ≤ content_limit → put_tree w tree ≡ unless_taken (put_object w (tree_object tree))
-  unfolding put_tree
-  small within =
-      let so : nat_lt content_limit (length (tree_text tree)) ≡ false = grind (arith, nat_tests) in
-      ap (λ (t : Bool). cond t (Err (IsLarge (length (tree_text tree)))) (unless_taken (put_object w (tree_object tree)))) so
-
-  by_collision : (put : Put) (found : Option (List ℕ)) → put.collision ≡ found → unless_taken put ≡ elim found as (λ o. Result World PutFault) [ None ↦ Ok put.world | Some id ↦ Err (IsTaken id) ]
-  by_collision put found is = ap (λ (o : Option (List ℕ)). elim o as (λ q. Result World PutFault) [ None ↦ Ok put.world | Some id ↦ Err (IsTaken id) ]) is
-
-  pub tree_put : (id : Id) (new : World) → IsDrafted w (tree_object tree) (Ok id) new → length (tree_text tree) ≤ content_limit → IsDraftedAs (tree_id tree) (put_tree w tree) (Ok id) new
-  tree_put id new put within = (put.id_is, small within ∙ (by_collision (put_object w (tree_object tree)) None put.none ∙ ap Ok (sym put.world)))
-
-  tree_taken : (id : List ℕ) → (put_object w (tree_object tree)).collision ≡ Some id → length (tree_text tree) ≤ content_limit → put_tree w tree ≡ Err (IsTaken id)
-  tree_taken id found within = small within ∙ by_collision (put_object w (tree_object tree)) (Some id) found
-
-  pub tree_not_put : (fault : ObjectFault) (new now : World) → IsDrafted w (tree_object tree) (Err fault) new → HasLengthJudged (length (tree_text tree)) (Err fault) → IsDraftedAs (tree_id tree) (put_tree w tree) (Err (put_fault_at fault)) now
-  tree_not_put objects.Missing new now is judged = absurd is
-  tree_not_put (objects.TooLarge count) new now is judged = large judged.1 ∙ ap (λ (n : ℕ). Err (IsLarge n)) (sym judged.0)
-  tree_not_put (objects.WrongHash id found) new now is judged = tree_taken id is.taken.collision judged
-  tree_not_put (objects.BadText at) new now is judged = absurd is
-  tree_not_put (objects.Collision id kept) new now is judged = tree_taken id is.0.collision judged
-  tree_not_put objects.Fault new now is judged = tt
-  tree_not_put objects.Memory new now is judged = tt
+-- a tree that was not put
+pub tree_not_put : (w : World) (tree : List TreeEntry) (fault : ObjectFault) (now : World) → HasObjectPut w (tree_object tree) (Err fault) now → HasPut (Err (put_fault_at fault)) (object_put (tree_object tree) w) now
+tree_not_put w tree objects.Missing now is = absurd is
+tree_not_put w tree (objects.TooLarge count) now is = object_is_not_put w (tree_object tree) (objects.TooLarge count) (Stops (Limit ObjectBytes count)) now is refl
+tree_not_put w tree (objects.WrongHash id found) now is = object_is_not_put w (tree_object tree) (objects.WrongHash id found) (Stops (Place id)) now is refl
+tree_not_put w tree (objects.BadText at) now is = absurd is
+tree_not_put w tree (objects.Collision id kept) now is = object_is_not_put w (tree_object tree) (objects.Collision id kept) (Stops (Place id)) now is refl
+tree_not_put w tree (objects.Blocked path) now is = object_is_not_put w (tree_object tree) (objects.Blocked path) (Stops (Way path)) now is refl
+tree_not_put w tree objects.Fault now is = tt
+tree_not_put w tree objects.Memory now is = tt
 
 -- ---- trees
 
-pub put_trees-append : (w : World) (front back : List (List TreeEntry)) → put_trees w (front ++ back) ≡ and_then (put_trees w front) (λ next. put_trees next back)
-unfolding put_trees
-put_trees-append w [] back = refl
-put_trees-append w (tree ∷ front) back = by (put_tree w tree) (λ next. put_trees-append next front back)
-  where
-    by : (put : Result World PutFault) → ((next : World) → put_trees next (front ++ back) ≡ and_then (put_trees next front) (λ last. put_trees last back))
-        → and_then put (λ next. put_trees next (front ++ back)) ≡ and_then (and_then put (λ next. put_trees next front)) (λ last. put_trees last back)
-    by (Ok next) more = more next
-    by (Err fault) more = refl
+abbrev pub unit : Unit {0}
+unit = tt
 
-pub put_trees-none : (w : World) → put_trees w [] ≡ Ok w
-unfolding put_trees
-put_trees-none w = refl
-
-pub put_trees-one : (w : World) (tree : List TreeEntry) → put_trees w (tree ∷ []) ≡ put_tree w tree
-unfolding put_trees
-put_trees-one w tree = by (put_tree w tree)
+pub each_put-append : (front back : List (List TreeEntry)) (w : World) → each_put (front ++ back) w ≡ go_on (each_put front w) (λ put. each_put back)
+unfolding each_put
+each_put-append [] back w = refl
+each_put-append (tree ∷ front) back w = by (object_put (tree_object tree) w) (λ next. each_put-append front back next)
   where
-    by : (put : Result World PutFault) → and_then put (λ next. Ok next) ≡ put
-    by (Ok next) = refl
-    by (Err fault) = refl
+    by : (put : Result (Id × World) Lack) → ((next : World) → each_put (front ++ back) next ≡ go_on (each_put front next) (λ all. each_put back))
+        → go_on put (λ id. each_put (front ++ back)) ≡ go_on (go_on put (λ id. each_put front)) (λ all. each_put back)
+    by (Ok turned) more = more turned.1
+    by (Err why) more = refl
+
+pub each_put-none : (w : World) → each_put [] w ≡ Ok (unit, w)
+unfolding each_put
+each_put-none w = refl
+
+pub each_put-one : (tree : List TreeEntry) (w : World) → each_put (tree ∷ []) w ≡ go_on (object_put (tree_object tree) w) (λ id. gives unit)
+unfolding each_put
+each_put-one tree w = refl
+
+-- ---- as objects that are put
+
+module _ (w : World) (tree : List TreeEntry) (turned : Id × World) where
+  abbrev o : Object
+  o = tree_object tree
+
+  abbrev path : Path
+  path = object_path (object_id o)
+
+  abbrev text : Text
+  text = object_text o
+
+  free : (b : Bool) → go_on (if b then Err (Way path) else Ok (unit, held.insert w path text)) (λ put. gives (object_id o)) ≡ Ok turned → unless_taken (record { world = held.insert w path text; collision = None }) ≡ Ok turned.1
+  free true put = absurd cc
+  free false put = let same : turned ≡ (object_id o, held.insert w path text) = cc in ap (λ (t : Id × World). Ok t.1) (sym same)
+
+  same_text : (b : Bool) → looked (if b then Ok (object_id o) else Err (Place (object_id o))) w ≡ Ok turned → unless_taken (record { world = w; collision = cond b None (Some (object_id o)) }) ≡ Ok turned.1
+  same_text true put = let same : turned ≡ (object_id o, w) = cc in ap (λ (t : Id × World). Ok t.1) (sym same)
+  same_text false put = absurd cc
+
+  over : (file : Option Text) → object_over o file w ≡ Ok turned → unless_taken (put_at w (object_id o) path text file) ≡ Ok turned.1
+  unfolding put_in
+  over None put = free (is_blocked w path) put
+  over (Some kept) put = same_text (bytes_eq kept text) put
+
+  by_size : (above : Bool) → go_on (looked (stop_if above (Limit ObjectBytes (length (tree_text tree)))) w) (λ small. looks (λ v. Ok (held.get v path)) >>= object_over o) ≡ Ok turned
+      → cond above (Err (IsLarge (length (tree_text tree)))) (unless_taken (put_at w (object_id o) path text (held.get w path))) ≡ Ok turned.1
+  by_size true put = absurd cc
+  by_size false put = over (held.get w path) put
+
+  -- a tree that is put is not too large, and no other text stands in its file
+  one_put : object_put (tree_object tree) w ≡ Ok turned → put_tree w tree ≡ Ok turned.1
+  unfolding put_tree object_put put_object
+  one_put put = by_size (nat_lt content_limit (length (tree_text tree))) put
+
+pub each_was_put : (trees : List (List TreeEntry)) (w : World) (turned : Unit {0} × World) → each_put trees w ≡ Ok turned → put_trees w trees ≡ Ok turned.1
+unfolding each_put put_trees
+each_was_put [] w turned is = let same : turned ≡ (unit, w) = cc in ap (λ (t : Unit {0} × World). Ok t.1) (sym same)
+each_was_put (tree ∷ trees) w turned is = by (object_put (tree_object tree) w) refl (λ next. each_was_put trees next turned) is
+  where
+    by : (put : Result (Id × World) Lack) → object_put (tree_object tree) w ≡ put → ((next : World) → each_put trees next ≡ Ok turned → put_trees next trees ≡ Ok turned.1) → go_on put (λ id. each_put trees) ≡ Ok turned
+        → and_then (put_tree w tree) (λ next. put_trees next trees) ≡ Ok turned.1
+    by (Ok first) is more put = ap (λ (r : Result World PutFault). and_then r (λ next. put_trees next trees)) (one_put w tree first is) ∙ more first.1 put
+    by (Err why) is more put = absurd cc
 
 -- ---- what was put
 

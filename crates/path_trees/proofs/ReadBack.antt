@@ -1,5 +1,5 @@
 -- The map of trees that were put is the map whose trees they are.
-use Rattle.std.proofs.Common.{◌≡◌, ℕ, zero, suc, ◌<◌, ◌≤◌, ◌==◌, Bool, true, false, cond, nat_le, nat_lt, ◌||◌, List, [], ◌∷◌, ◌++◌, length, map, get_or, Some, Result, Ok, Err, refl, sym, ap, subst, ◌∙◌, append_assoc, arith, length-append, eq-eqb}
+use Rattle.std.proofs.Common.{◌≡◌, ℕ, zero, suc, ◌<◌, ◌≤◌, ◌==◌, Bool, true, false, cond, nat_le, nat_lt, ◌||◌, List, [], ◌∷◌, ◌++◌, length, map, get_or, Some, None, Result, Ok, Err, refl, sym, ap, subst, ◌∙◌, append_assoc, arith, length-append, eq-eqb}
 use Rattle.std.specs.FinMap as held
 use Rattle.std.specs.List.{AllByRecursion, list_all, list_any}
 use Rattle.std.specs.Result.{IfOk, OnOk}
@@ -12,26 +12,29 @@ use Rattle.std.proofs.lemmas.Str.{IsCharBoundary-before_ascii, IsUtf8-take, utf8
 use Rattle.std.proofs.Math.Seq.{get_or-append_seam, take-append_seam}
 use Rattle.seq_base.specs.Paths.{IsPath, parts}
 use Rattle.seq_base.specs.PathMaps.{IsPathMap}
+use Rattle.seq_base.specs.Words.{Id}
 use Rattle.seq_base.specs.World.{World}
-use Rattle.seq_base.specs.declared.id.Id.{Id}
 use Rattle.seq_base.specs.declared.map.Entry.{Entry}
+use Rattle.seq_base.specs.Repository.{object_path}
 use Rattle.seq_base.proofs.Places.{some_part}
 use Rattle.object_text.specs.declared.tree.TreeEntry.{TreeEntry}
 use Rattle.object_text.specs.Objects.{object_text}
-use Rattle.object_text.specs.Store.{content_limit, object_path, tree_at}
+use Rattle.object_text.specs.Store.{content_limit, put_all, tree_at}
 use Rattle.object_text.specs.TreeMaps.{Listing, NoMore, OneFile, OneFolder, MapFault, BadTree, ◌>>=◌, below, entries_map, folder_trees, is_path_text, is_too_deep, listing_of, map_at, map_below, opened, put_trees, root_of, tree_entries, tree_id, tree_object, trees_of}
 use Rattle.object_text.specs.Trees.{HaveIds, IsTreeOrder, is_name, tree_text}
 use Rattle.object_text.proofs.Lengths.{length-id}
+use Rattle.seq_outside.specs.declared.lack.Lack.TheVariants.{Limit}
+use Rattle.seq_outside.specs.declared.limit.LimitWhat.TheVariants.{TreeDepth}
 use Rattle.objects.proofs.Writing.{file_stays, free_file, object_of_file}
-use Rattle.path_trees.specs.Drafts.{IsDraftedAs}
+use Rattle.path_trees.specs.Puts.{HasPut, folder_put, trees_put}
 use Rattle.path_trees.specs.Rows.{Rows}
 use Rattle.path_trees.specs.declared.fault.TreeFault.{TreeFault}
-use Rattle.path_trees.proofs.Folders.{HaveRowIds, are_files}
+use Rattle.path_trees.proofs.Folders.{HaveRowIds, are_files, was_folder_put}
 use Rattle.path_trees.proofs.Listings.{IsWhole, in_front, listing_whole, parts_in_front, rows_in, rows_listed}
 use Rattle.path_trees.proofs.Order.{name_no_slash}
 use Rattle.path_trees.proofs.PathNames.{all_names}
 use Rattle.path_trees.proofs.Paths.{some_below}
-use Rattle.path_trees.proofs.Puts.{was_put, were_put}
+use Rattle.path_trees.proofs.Puts.{all_put, each_was_put, unit, was_put, were_put}
 use Rattle.path_trees.proofs.TreeOrder.{AllApart, all_back, all_front, apart_back, apart_front, apart_inner, first_row, map_apart, tree_ordered}
 use Rattle.path_trees.proofs.Trees.{tree_spelled}
 
@@ -258,7 +261,24 @@ written_back w now rows is paths ids low put =
     ∙ (reads now listing 255 [] whole (all_found now listing whole apart listed_ids stand.0) (fits listing 255 whole (subst (HaveDepth 256) (sym same) (all_depth rows low))) text
     ∙ ap Ok (ap (map (at_folder [])) same ∙ at_root rows))
 
-pub drafted_back : (w now : World) (rows : Rows) (r : Result Id TreeFault) → IsPathMap rows → AllByRecursion (λ e. IsPath e.0) rows → OnOk r (HaveRowIds rows) → is_too_deep rows ≡ false → IsDraftedAs (root_of rows) (put_trees w (trees_of rows)) r now
-    → IfOk r (λ root. map_at now root ≡ Ok rows)
-drafted_back w now rows (Ok id) is paths ids low drafted = ap (map_at now) drafted.0 ∙ written_back w now rows is paths ids low drafted.1
-drafted_back w now rows (Err e) is paths ids low drafted = tt
+-- ---- what was written
+
+-- as if the objects of the trees were put
+pub objects_put : (rows : Rows) (w now : World) (r : Result Id TreeFault) → HasPut r (folder_put rows w) now → OnOk r (put_all w (map tree_object (trees_of rows)) ≡ record { world = now; collision = None })
+objects_put rows w now (Ok id) put = all_put w (trees_of rows) now (each_was_put (trees_of rows) w (unit, now) (was_folder_put rows w id now put))
+objects_put rows w now (Err e) put = tt
+
+-- the map of the root is the map
+pub reads_back : (rows : Rows) (w now : World) (r : Result Id TreeFault) → IsPathMap rows → AllByRecursion (λ e. IsPath e.0) rows → OnOk r (HaveRowIds rows) → is_too_deep rows ≡ false → IfOk r (λ root. root ≡ root_of rows)
+    → HasPut r (folder_put rows w) now → IfOk r (λ root. map_at now root ≡ Ok rows)
+reads_back rows w now (Ok id) is paths ids low root put = ap (map_at now) root ∙ written_back w now rows is paths ids low (each_was_put (trees_of rows) w (unit, now) (was_folder_put rows w id now put))
+reads_back rows w now (Err e) is paths ids low root put = tt
+
+-- a map none of whose trees lies too deep, and another
+pub shallow_put : (rows : Rows) (w : World) → is_too_deep rows ≡ false → trees_put rows w ≡ folder_put rows w
+unfolding trees_put
+shallow_put rows w low = rw low refl
+
+pub too_deep : (rows : Rows) (w : World) → is_too_deep rows ≡ true → trees_put rows w ≡ Err (Limit TreeDepth 257)
+unfolding trees_put
+too_deep rows w deep = rw deep refl

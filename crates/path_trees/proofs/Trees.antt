@@ -17,7 +17,7 @@ use Rattle.objects.proofs.Reading.{got_object, not_large}
 use Rattle.path_trees.specs.Faults.{fault_at}
 use Rattle.path_trees.specs.Reads.{GivesEntries, GivesTree, IsBadOnly}
 use Rattle.path_trees.specs.declared.fault.TreeFault.{TreeFault}
-use Rattle.path_trees.specs.declared.fault.TreeFault.TheVariants.{BadObject, TooLarge, Depth, Fault, Memory}
+use Rattle.path_trees.specs.declared.fault.TreeFault.TheVariants.{BadObject, TooLarge, Depth, Blocked, Fault, Memory}
 
 pub tree_spelled : (es : List TreeEntry) (content : List ℕ) → IsTree es content → entries_of content ≡ Some es
 unfolding entries_of
@@ -42,6 +42,7 @@ tree_missed w id (objects.TooLarge count) is = (tree_is w id None (got_object w 
 tree_missed w id (objects.WrongHash wanted found) is = (refl, tree_is w id None (got_object w id (Err (objects.WrongHash wanted found)) is), record { small = not_large w id (Err (objects.WrongHash wanted found)) is tt })
 tree_missed w id (objects.BadText at) is = (refl, tree_is w id None (got_object w id (Err (objects.BadText at)) is), record { small = not_large w id (Err (objects.BadText at)) is tt })
 tree_missed w id (objects.Collision wanted kept) is = absurd is
+tree_missed w id (objects.Blocked path) is = absurd is
 tree_missed w id objects.Fault is = tt
 tree_missed w id objects.Memory is = tt
 
@@ -51,6 +52,7 @@ tree_read w id o (Ok v) got is = tree_is w id (Some o) (got_object w id (Ok o) g
 tree_read w id o (Err (BadObject bad)) got is = (is.0, tree_is w id (Some o) (got_object w id (Ok o) got) ∙ is.1, record { small = not_large w id (Ok o) got tt })
 tree_read w id o (Err (TooLarge count)) got is = absurd is
 tree_read w id o (Err Depth) got is = absurd is
+tree_read w id o (Err (Blocked path)) got is = absurd is
 tree_read w id o (Err Fault) got is = absurd is
 tree_read w id o (Err Memory) got is = tt
 

@@ -1,5 +1,7 @@
 pub mod Faults
 pub mod Reads
 pub mod Rows
-pub mod Drafts
+pub mod Puts
 pub mod Collisions
+pub mod Named
+pub mod Halts

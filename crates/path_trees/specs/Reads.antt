@@ -6,7 +6,7 @@ use Rattle.object_text.specs.declared.tree.TreeEntry.{TreeEntry}
 use Rattle.object_text.specs.TreeMaps.{MapFault, BadTree, TooDeep}
 use Rattle.objects.specs.Reads.{IsObjectTooLarge}
 use Rattle.path_trees.specs.declared.fault.TreeFault.{TreeFault}
-use Rattle.path_trees.specs.declared.fault.TreeFault.TheVariants.{BadObject, TooLarge, Depth, Fault, Memory}
+use Rattle.path_trees.specs.declared.fault.TreeFault.TheVariants.{BadObject, TooLarge, Depth, Blocked, Fault, Memory}
 
 -- whether the object of an id is bad but not too large, or too large
 pub record IsBadOnly (w : World) (id : List ℕ) : Type 0 where
@@ -18,6 +18,7 @@ abbrev pub Blames : {X : Type 0} → World → TreeFault → Result X MapFault �
 Blames w (BadObject id) means = (means ≡ Err (BadTree id)) × IsBadOnly w id
 Blames w (TooLarge count) means = (id : List ℕ) × (means ≡ Err (BadTree id)) × IsObjectTooLarge w id count
 Blames w Depth means = means ≡ Err TooDeep
+Blames w (Blocked path) means = ⊥
 Blames w Fault means = Unit {0}
 Blames w Memory means = Unit {0}
 
@@ -32,6 +33,7 @@ GivesTree w id (Ok v) found = found ≡ Some v.items
 GivesTree w id (Err (BadObject bad)) found = (bad ≡ id) × (found ≡ None) × IsBadOnly w id
 GivesTree w id (Err (TooLarge count)) found = (found ≡ None) × IsObjectTooLarge w id count
 GivesTree w id (Err Depth) found = ⊥
+GivesTree w id (Err (Blocked path)) found = ⊥
 GivesTree w id (Err Fault) found = Unit {0}
 GivesTree w id (Err Memory) found = Unit {0}
 
@@ -41,5 +43,6 @@ GivesEntries id (Ok v) found = found ≡ Some v.items
 GivesEntries id (Err (BadObject bad)) found = (bad ≡ id) × (found ≡ None)
 GivesEntries id (Err (TooLarge count)) found = ⊥
 GivesEntries id (Err Depth) found = ⊥
+GivesEntries id (Err (Blocked path)) found = ⊥
 GivesEntries id (Err Fault) found = ⊥
 GivesEntries id (Err Memory) found = Unit {0}

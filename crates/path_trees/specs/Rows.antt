@@ -8,7 +8,7 @@ use Rattle.seq_base.specs.declared.map.Entry.{Entry}
 use Rattle.object_text.specs.declared.tree.TreeEntry.{TreeEntry}
 use Rattle.object_text.specs.TreeMaps.{MapFault, below, is_path_text}
 use Rattle.path_trees.specs.declared.fault.TreeFault.{TreeFault}
-use Rattle.path_trees.specs.declared.fault.TreeFault.TheVariants.{BadObject, TooLarge, Depth, Fault, Memory}
+use Rattle.path_trees.specs.declared.fault.TreeFault.TheVariants.{BadObject, TooLarge, Depth, Blocked, Fault, Memory}
 
 -- a path and what stands there
 abbrev pub Rows : Type 0
@@ -31,6 +31,7 @@ GivesRows folder id es (Ok rows) = (rows.items ≡ reverse (map (row_at folder) 
 GivesRows folder id es (Err (BadObject bad)) = (bad ≡ id) × (list_all (has_path folder) es ≡ false)
 GivesRows folder id es (Err (TooLarge count)) = ⊥
 GivesRows folder id es (Err Depth) = ⊥
+GivesRows folder id es (Err (Blocked path)) = ⊥
 GivesRows folder id es (Err Fault) = ⊥
 GivesRows folder id es (Err Memory) = Unit {0}
 

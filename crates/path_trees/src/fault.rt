@@ -1,17 +1,17 @@
 //! Why a tree has no map, or a map no trees.
 
 ghost use Rattle.std.specs.Prelude.{◌≡◌};
-ghost use Rattle.path_trees.specs.Faults.{IsOfPut, fault_at as fault_of_object, put_fault_at, store_fault_at};
+ghost use Rattle.objects.specs.Causes.{IsPutFault};
+ghost use Rattle.path_trees.specs.Faults.{fault_at as fault_of_object, put_fault_at};
 ghost use Rattle.path_trees.specs.declared.fault.TreeFault.TheVariants.{Memory};
 
 use objects::ObjectFault;
-use seq_base::Id;
-use seq_outside::StoreError;
+use seq_base::{Bytes, Id};
 use std::alloc::{AllocError, AllocFailed};
 use thiserror::Error;
 
 /// Why a tree has no map, or a map no trees.
-#[derive(Clone, Copy, Debug, PartialEq, Eq, Drop, Error)]
+#[derive(Debug, Drop, Error)]
 pub enum TreeFault {
     /// The first object that is no tree, or is a tree that holds a path that is none; of trees to be put, the first in whose file
     /// another text stands.
@@ -23,6 +23,9 @@ pub enum TreeFault {
     /// A tree lies deeper than 256 trees on a chain, or would.
     #[error("trees are at most 256 deep")]
     Depth,
+    /// Of trees to be put, the first whose file has another in its way.
+    #[error("a file stands in a folder's place, or a folder in a file's")]
+    Blocked { path: Bytes },
     #[error("the store failed")]
     Fault,
     #[error("out of memory")]
@@ -45,19 +48,7 @@ impl<T: Drop> From<AllocFailed<T>> for TreeFault {
     }
 }
 
-impl From<StoreError> for TreeFault {
-    ghost from_gives = { λ error fault. fault ≡ store_fault_at error };
-
-    fn from(error: StoreError) -> TreeFault {
-        match error {
-            StoreError::Failed => TreeFault::Fault,
-            StoreError::Blocked => TreeFault::Fault,
-            StoreError::Memory => TreeFault::Memory,
-        }
-    }
-}
-
-/// What is answered of an object that was not read or put.
+/// What is answered of an object that was not read.
 pub fn fault_at(id: Id, fault: ObjectFault) -> TreeFault
     ensures { result ≡ fault_of_object id fault }
 {
@@ -67,6 +58,7 @@ pub fn fault_at(id: Id, fault: ObjectFault) -> TreeFault
         ObjectFault::WrongHash { .. } => TreeFault::BadObject { id },
         ObjectFault::BadText { .. } => TreeFault::BadObject { id },
         ObjectFault::Collision { .. } => TreeFault::BadObject { id },
+        ObjectFault::Blocked { .. } => TreeFault::Fault,
         ObjectFault::Fault => TreeFault::Fault,
         ObjectFault::Memory => TreeFault::Memory,
     }
@@ -74,13 +66,14 @@ pub fn fault_at(id: Id, fault: ObjectFault) -> TreeFault
 
 /// What is answered of a tree that was not put.
 pub fn put_fault(fault: ObjectFault) -> TreeFault
-    requires { IsOfPut fault }
+    requires { IsPutFault fault }
     ensures { result ≡ put_fault_at fault }
 {
     match fault {
         ObjectFault::TooLarge { length: count } => TreeFault::TooLarge { length: count },
         ObjectFault::WrongHash { id, .. } => TreeFault::BadObject { id },
         ObjectFault::Collision { id, .. } => TreeFault::BadObject { id },
+        ObjectFault::Blocked { path } => TreeFault::Blocked { path },
         ObjectFault::Fault => TreeFault::Fault,
         ObjectFault::Memory => TreeFault::Memory,
         ObjectFault::Missing | ObjectFault::BadText { .. } => unreachable!(),

@@ -2,20 +2,15 @@
 #![tactic(auto)]
 
 mod chain;
-mod draft;
 mod fault;
 pub mod laws;
+mod named;
 mod read;
 mod rows;
 mod tree;
 mod write;
 
-pub use draft::draft_map;
 pub use fault::TreeFault;
+pub use named::{read_commit_map, read_tree_map, write_trees};
 pub use read::read_map;
 pub use write::write_map;
-
-#[cfg(test)]
-mod tests;
-#[cfg(test)]
-mod writing_tests;

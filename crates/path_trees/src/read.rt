@@ -2,7 +2,8 @@
 
 ghost use Rattle.std.specs.Prelude.{◌≡◌, [], IfErr, OnOk};
 ghost use Rattle.object_text.specs.TreeMaps.{is_folder as is_folder_mode, map_at, map_below};
-ghost use Rattle.path_trees.specs.Faults.{HasReadCause};
+ghost use Rattle.seq_outside.specs.Seen.{Reads};
+ghost use Rattle.path_trees.specs.Faults.{tree_cause};
 ghost use Rattle.path_trees.specs.Reads.{Blames, Gives};
 ghost use Rattle.path_trees.specs.Rows.{HasAdded, IsFolder};
 
@@ -32,10 +33,9 @@ fn add_tree<S: Store>(
     out: &mut Vec<(Path, Entry)>,
 ) -> Result<(), TreeFault>
     requires { IsFolder folder.now }
-    ensures adds { OnOk result (HasAdded S.told folder.now out.old.items out.new.items (map_below depth (S.content store.old) folder.now id)) }
-    ensures fault { S.told → IfErr result (λ e. Blames (S.content store.old) e (map_below depth (S.content store.old) folder.now id)) }
-    ensures same { S.told → S.content store.new ≡ S.content store.old }
-    ensures cause { HasReadCause result (S.faults store.old) (S.faults store.new) (S.blocked store.old) (S.blocked store.new) }
+    ensures adds { OnOk result (HasAdded S.told folder.now out.old.items out.new.items (map_below depth (S.seen store.old).content folder.now id)) }
+    ensures fault { S.told → IfErr result (λ e. Blames (S.seen store.old).content e (map_below depth (S.seen store.old).content folder.now id)) }
+    ensures reads { Reads S.told tree_cause result (S.seen store.old) (S.seen store.new) }
 {
     if depth == 0 {
         return Err(TreeFault::Depth);
@@ -56,9 +56,8 @@ fn add_tree<S: Store>(
 /// a tree before its subtrees and in the order of entries, the first that is no tree, cannot be read, or has an entry whose path
 /// is none is BadObject, or TooLarge where its content passes the limit; a tree below 256 others is Depth.
 pub fn read_map<S: Store>(alloc: Global, store: &mut S, tree: Id) -> Result<PathMap, TreeFault>
-    ensures gives { S.told → Gives (λ map. map) (S.content store.old) result (map_at (S.content store.old) tree) }
-    ensures same { S.told → S.content store.new ≡ S.content store.old }
-    ensures cause { HasReadCause result (S.faults store.old) (S.faults store.new) (S.blocked store.old) (S.blocked store.new) }
+    ensures gives { S.told → Gives (λ map. map) (S.seen store.old).content result (map_at (S.seen store.old).content tree) }
+    ensures reads { Reads S.told tree_cause result (S.seen store.old) (S.seen store.new) }
 {
     let mut entries = Vec::new(alloc);
     add_tree(alloc, store, 256, &[], tree, &mut entries)?;

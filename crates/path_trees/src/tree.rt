@@ -3,7 +3,8 @@
 ghost use Rattle.std.specs.Prelude.{◌≡◌, IfOk};
 ghost use Rattle.object_text.specs.Store.{entries_if_tree, tree_at};
 ghost use Rattle.object_text.specs.Trees.{IsTreeOrder};
-ghost use Rattle.path_trees.specs.Faults.{HasReadCause};
+ghost use Rattle.seq_outside.specs.Seen.{Reads};
+ghost use Rattle.path_trees.specs.Faults.{tree_cause};
 ghost use Rattle.path_trees.specs.Reads.{GivesEntries, GivesTree};
 
 use crate::fault::{TreeFault, fault_at};
@@ -31,10 +32,9 @@ fn entries_of(alloc: Global, object: &Object, id: Id) -> Result<Vec<TreeEntry>, 
 
 /// The entries of the tree of an id.
 pub fn tree_of<S: Store>(alloc: Global, store: &mut S, id: Id) -> Result<Vec<TreeEntry>, TreeFault>
-    ensures gives { S.told → GivesTree (S.content store.old) id result (tree_at (S.content store.old) id) }
+    ensures gives { S.told → GivesTree (S.seen store.old).content id result (tree_at (S.seen store.old).content id) }
     ensures order { IfOk result (λ entries. IsTreeOrder entries.items) }
-    ensures same { S.told → S.content store.new ≡ S.content store.old }
-    ensures cause { HasReadCause result (S.faults store.old) (S.faults store.new) (S.blocked store.old) (S.blocked store.new) }
+    ensures reads { Reads S.told tree_cause result (S.seen store.old) (S.seen store.new) }
 {
     match get(alloc, store, id) {
         Ok(object) => entries_of(alloc, &object, id),

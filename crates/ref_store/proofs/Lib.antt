@@ -1,4 +1,1 @@
 pub mod Moving
-pub mod Freeing
-pub mod Kept
-pub mod Writing

@@ -1,11 +1,67 @@
--- Which files a move of a branch writes.
-use Rattle.std.proofs.Common.{◌≡◌, ◌||◌, Bool, true, false, ap, ◌∙◌}
-use Rattle.std.proofs.Common.{refl}
+-- A branch that is moved step by step is moved as a whole, where nothing is in the way.
+use Rattle.std.proofs.Common.{◌≡◌, ◌⊎◌, ◌++◌, ℕ, Bool, true, false, cond, codes, List, [], inl, inr, Ok, refl, sym, subst}
+use Rattle.std.specs.FinMap as map
+use Rattle.std.specs.Prelude.{drop, unwrap_or}
+use Rattle.std.specs.Str.{bytes_eq}
+use Rattle.std.proofs.lemmas.Bool.{or_cases}
+use Rattle.std.proofs.lemmas.Slice.Eq.{bytes_eq-Decides}
+use Rattle.ref_text.specs.declared.head.Head.TheVariants.{Branch, Detached}
+use Rattle.ref_text.specs.declared.log.LogLine.{LogLine}
+use Rattle.ref_text.specs.Heads.{head_text}
+use Rattle.ref_text.specs.Logs.{log_text}
+use Rattle.ref_text.specs.Refs.{IsWritable, has_log, head_name, log_path, logged, move_head, ref_path}
+use Rattle.seq_base.specs.RefNames.{IsRefName, is_below_refs}
+use Rattle.seq_base.specs.World.{World, is_below, is_blocked}
+use Rattle.seq_base.proofs.RefPaths.{behind_front, below_refs}
+use Rattle.seq_base.proofs.Shape.{still_free}
+use Rattle.seq_outside.specs.Turns.{gives, put_in}
+use Rattle.ref_store.specs.Moves.{branch_moved, head_logged, line_added, lines_added, ref_set}
 
-grouped : (old ref log head : Bool) → (old || ref || log || head) ≡ (old || (ref || log || head))
-grouped true ref log head = refl
-grouped false ref log head = refl
+-- the file and the log of a name stand neither above nor below a log
+record IsApart (name other : List ℕ) : Type 0 where
+  above_ref : is_below (ref_path name) (log_path other) ≡ false
+  below_ref : is_below (log_path other) (ref_path name) ≡ false
+  above_log : is_below (log_path name) (log_path head_name) ≡ false
+  below_log : is_below (log_path head_name) (log_path name) ≡ false
 
-pub moved_named : (new two one old ref log head : Bool) → one ≡ (old || ref) → two ≡ (one || log) → new ≡ (two || head) → new ≡ (old || (ref || log || head))
-moved_named new two one old ref log head first second third =
-    third ∙ ap (λ (b : Bool). b || head) (second ∙ ap (λ (b : Bool). b || log) first) ∙ grouped old ref log head
+begins : (name : List ℕ) → IsRefName name → (name ≡ head_name) ⊎ ((rest : List ℕ) × (name ≡ codes "refs/" ++ rest))
+begins name h = elim (or_cases (bytes_eq name head_name) (is_below_refs name) h) [
+  | inl is ↦ inl ((bytes_eq-Decides name head_name).0 is)
+  | inr is ↦ inr (drop 5 name, behind_front (codes "refs/") name (below_refs name is).begins)
+]
+
+apart : (name other : List ℕ) → IsRefName name → IsApart name other
+apart name other h = elim (begins name h) [
+  | inl is ↦ subst (λ (n : List ℕ). IsApart n other) (sym is) (record { above_ref = refl; below_ref = refl; above_log = refl; below_log = refl })
+  | inr (rest, is) ↦ subst (λ (n : List ℕ). IsApart n other) (sym is) (record { above_ref = refl; below_ref = refl; above_log = refl; below_log = refl })
+]
+
+put_free : (w : World) (path bytes : List ℕ) → is_blocked w path ≡ false → put_in path bytes w ≡ Ok (tt, map.insert w path bytes)
+put_free w path bytes free = unfold put_in in rw free refl
+
+line_free : (w : World) (name : List ℕ) (line : LogLine) → is_blocked w (log_path name) ≡ false → line_added name line w ≡ Ok (tt, logged w name line)
+line_free w name line free = unfold line_added in at (unwrap_or (map.get w (log_path name)) [] ++ log_text line) (has_log name)
+  where
+    at : (text : List ℕ) (b : Bool) → cond b (put_in (log_path name) text w) (gives tt w) ≡ Ok (tt, cond b (map.insert w (log_path name) text) w)
+    at text true = put_free w (log_path name) text free
+    at text false = refl
+
+log_free : (w : World) (name other bytes : List ℕ) → IsRefName name → is_blocked w (log_path other) ≡ false → is_blocked (map.insert w (ref_path name) bytes) (log_path other) ≡ false
+log_free w name other bytes h free = let a = apart name other h in still_free w (ref_path name) bytes (log_path other) free a.below_ref a.above_ref
+
+head_free : (w : World) (name : List ℕ) (line : LogLine) → IsRefName name → is_blocked w (log_path head_name) ≡ false → is_blocked (logged w name line) (log_path head_name) ≡ false
+head_free w name line h free = at (unwrap_or (map.get w (log_path name)) [] ++ log_text line) (has_log name)
+  where
+    at : (text : List ℕ) (b : Bool) → is_blocked (cond b (map.insert w (log_path name) text) w) (log_path head_name) ≡ false
+    at text true = let a = apart name head_name h in still_free w (log_path name) text (log_path head_name) free a.below_log a.above_log
+    at text false = free
+
+pub moved_as_head : (w : World) (branch id : List ℕ) (line : LogLine) → IsRefName branch → IsWritable w branch → is_blocked w (log_path head_name) ≡ false → branch_moved branch id line w ≡ Ok (tt, move_head w (Branch branch) id line)
+moved_as_head w branch id line name writable head =
+    let text = head_text (Detached id) in
+    let one = map.insert w (ref_path branch) text in
+    let two = logged one branch line in
+    let first = put_free w (ref_path branch) text writable.ref in
+    let second = line_free one branch line (log_free w branch branch text name writable.log) in
+    let third = line_free two head_name line (head_free one branch line name (log_free w branch head_name text name head)) in
+    unfold branch_moved in unfold ref_set in unfold lines_added in unfold head_logged in rw (first, second) third

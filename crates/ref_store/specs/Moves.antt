@@ -1,22 +1,42 @@
--- Which files a move of a branch writes.
-use Rattle.std.specs.Prelude.{◌≡◌, ℕ, Bool, false, ◌&&◌, ◌||◌, List}
+-- A branch that is moved, as steps over a world (git-update-ref(1)).
+use Rattle.std.specs.Prelude.{◌≡◌, ℕ, false, if◌then◌else◌, List, [], ◌++◌, unwrap_or}
+use Rattle.std.specs.FinMap as map
 use Rattle.std.specs.Ordering.{eq_by_cmp}
-use Rattle.std.specs.Str.{bytes_eq}
 use Rattle.seq_base.specs.World.{path_cmp}
-use Rattle.seq_outside.specs.Writes.{is_written}
-use Rattle.seq_outside.specs.declared.write.Write.{Write}
+use Rattle.seq_outside.specs.declared.lack.Lack.{Lack}
+use Rattle.seq_outside.specs.Turns.{◌>>=◌, Turn, gives, put_in}
+use Rattle.ref_text.specs.declared.head.Head.TheVariants.{Detached}
+use Rattle.ref_text.specs.declared.log.LogLine.{LogLine}
+use Rattle.ref_text.specs.Heads.{head_text}
+use Rattle.ref_text.specs.Logs.{log_text}
 use Rattle.ref_text.specs.Refs.{has_log, head_name, log_path, ref_path}
 
-abbrev pub is_log_of : List ℕ → List ℕ → Bool
-is_log_of name path = has_log name && eq_by_cmp path_cmp path (log_path name)
+-- the ref's file has the value
+unfoldable pub ref_set : List ℕ → List ℕ → Turn Lack (Unit {0})
+ref_set name id = put_in (ref_path name) (head_text (Detached id))
 
--- the file of the branch, its log, or that of HEAD
-abbrev pub is_moved : List ℕ → List ℕ → Bool
-is_moved branch path = eq_by_cmp path_cmp path (ref_path branch) || is_log_of branch path || eq_by_cmp path_cmp path (log_path head_name)
+-- the ref's log has a line more, if a log is kept of it
+unfoldable pub line_added : List ℕ → LogLine → Turn Lack (Unit {0})
+line_added name line w = if has_log name then put_in (log_path name) (unwrap_or (map.get w (log_path name)) [] ++ log_text line) w else gives tt w
 
--- a branch, which is not HEAD, of whose files the writes name none
-pub record IsUnwritten (writes : List Write) (branch : List ℕ) : Type 0 where
-  pub other : bytes_eq branch head_name ≡ false
-  pub ref : is_written writes (ref_path branch) ≡ false
-  pub log : is_written writes (log_path branch) ≡ false
-  pub head : is_written writes (log_path head_name) ≡ false
+-- HEAD's log has a line more
+unfoldable pub head_logged : LogLine → Turn Lack (Unit {0})
+head_logged line = line_added head_name line
+
+-- the ref's log has the line, and HEAD's too
+unfoldable pub lines_added : List ℕ → LogLine → Turn Lack (Unit {0})
+lines_added name line = do
+  _ ← line_added name line
+  head_logged line
+
+-- the branch has the value, and its log and HEAD's the line
+unfoldable pub branch_moved : List ℕ → List ℕ → LogLine → Turn Lack (Unit {0})
+branch_moved name id line = do
+  _ ← ref_set name id
+  lines_added name line
+
+-- a path that is neither the branch's file nor its log nor HEAD's
+pub record IsElsewhere (branch path : List ℕ) : Type 0 where
+  pub ref : eq_by_cmp path_cmp path (ref_path branch) ≡ false
+  pub log : eq_by_cmp path_cmp path (log_path branch) ≡ false
+  pub head : eq_by_cmp path_cmp path (log_path head_name) ≡ false

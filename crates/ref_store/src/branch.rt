@@ -1,70 +1,109 @@
-//! Moving HEAD's branch, in a draft.
+//! Moving HEAD's branch.
 
 ghost use Rattle.std.specs.FinMap as map;
-ghost use Rattle.std.specs.List.{AllByRecursion};
 ghost use Rattle.std.specs.Ordering.{eq_by_cmp};
-ghost use Rattle.std.specs.Prelude.{◌≡◌, ◌||◌, false, true, List, OnOk, ℕ};
-ghost use Rattle.std.specs.Str.{bytes_eq};
-ghost use Rattle.ref_store.specs.Causes.{HasReadCause};
-ghost use Rattle.ref_store.specs.Moves.{IsUnwritten, is_moved};
-ghost use Rattle.ref_text.specs.Heads.{head_text as text_of_head};
+ghost use Rattle.std.specs.Prelude.{◌≡◌, List, false, ℕ};
+ghost use Rattle.ref_store.specs.Moves.{IsElsewhere, branch_moved, head_logged, line_added, lines_added, ref_set};
 ghost use Rattle.ref_text.specs.Logs.{IsLogValue};
-ghost use Rattle.ref_text.specs.Refs.{IsWritable, head_name, log_path, move_head, ref_path};
+ghost use Rattle.ref_text.specs.Refs.{head_name, log_path, ref_path};
 ghost use Rattle.seq_base.specs.RefNames.{IsRefName};
-ghost use Rattle.seq_base.specs.Repository.{IsRepository};
-ghost use Rattle.seq_base.specs.World.{World, is_blocked, path_cmp};
-ghost use Rattle.seq_outside.specs.Keeping.{KeepsRepository};
-ghost use Rattle.seq_outside.specs.Writes.{IsInPlace, IsKept, are_free, is_written, written};
+ghost use Rattle.seq_base.specs.World.{path_cmp};
+ghost use Rattle.seq_outside.specs.Halts.{halt_cause};
+ghost use Rattle.seq_outside.specs.Seen.{Writes};
+ghost use Rattle.seq_outside.specs.Turns.{Turns};
 
-use crate::fault::RefFault;
-use crate::log::draft_line;
-use crate::place::ref_file;
-use ref_text::{Head, LogLine, head_text};
-use seq_base::{Bytes, Id};
-use seq_outside::{Draft, Store};
-use std::alloc::{AllocError, Global};
+use crate::file::{file_text, put_file};
+use crate::place::{has_log, log_file, ref_file};
+use ref_text::{Head, LogLine, head_text, log_text};
+use seq_base::Id;
+use seq_outside::{Halt, Lack, Store};
+use std::alloc::Global;
 
-/// Drafts the file of a ref with this value.
-fn draft_value(alloc: Global, draft: &mut Draft, name: &[u8], id: Id) -> Result<(), AllocError>
+/// Gives a ref a value.
+#[tactic(auto, unfolding(crate::specs::Moves::ref_set))]
+fn set_ref<S: Store>(alloc: Global, store: &mut S, name: &[u8], id: Id) -> Result<(), Halt<Lack>>
     requires { IsRefName name.now }
-    ensures done { OnOk result ((w : World) → written w draft.new ≡ map.insert (written w draft.old) (ref_path name.now) (text_of_head (Head.Detached id))) }
-    ensures named { OnOk result ((q : List ℕ) → is_written draft.new q ≡ (is_written draft.old q || eq_by_cmp path_cmp q (ref_path name.now))) }
-    ensures free { OnOk result ((w : World) → are_free w draft.old ≡ true → is_written draft.old (ref_path name.now) ≡ false → is_blocked (written w draft.old) (ref_path name.now) ≡ false → are_free w draft.new ≡ true) }
-    ensures in_place { OnOk result (AllByRecursion IsInPlace draft.old → AllByRecursion IsInPlace draft.new) }
-    ensures keeps { OnOk result ((w : World) → KeepsRepository w draft.old → is_blocked (written w draft.old) (ref_path name.now) ≡ false → KeepsRepository w draft.new) }
+    ensures turns { S.told → Turns (λ x. x) result (ref_set name.now id (S.seen store.old).content) (S.seen store.new).content }
+    ensures elsewhere { S.told → (other : List ℕ) → eq_by_cmp path_cmp other (ref_path name.now) ≡ false → map.get (S.seen store.new).content other ≡ map.get (S.seen store.old).content other }
+    ensures writes { Writes S.told halt_cause result (S.seen store.old) (S.seen store.new) }
 {
     let path = ref_file(alloc, name)?;
     let text = head_text(alloc, &Head::Detached(id))?;
-    draft.put(Bytes::from_vec(path), Bytes::from_vec(text))?;
-    Ok(())
+    put_file(alloc, store, path, &text)
+}
+
+/// Adds a line at the end of the log of a ref, if a log is kept of it.
+#[tactic(auto, unfolding(crate::specs::Moves::line_added))]
+fn add_line<S: Store>(
+    alloc: Global,
+    store: &mut S,
+    name: &[u8],
+    line: &LogLine,
+) -> Result<(), Halt<Lack>>
+    requires name { IsRefName name.now }
+    requires line { IsLogValue line.now }
+    ensures turns { S.told → Turns (λ x. x) result (line_added name.now line.now (S.seen store.old).content) (S.seen store.new).content }
+    ensures elsewhere { S.told → (other : List ℕ) → eq_by_cmp path_cmp other (log_path name.now) ≡ false → map.get (S.seen store.new).content other ≡ map.get (S.seen store.old).content other }
+    ensures writes { Writes S.told halt_cause result (S.seen store.old) (S.seen store.new) }
+{
+    if !has_log(name) {
+        return Ok(());
+    }
+    let path = log_file(alloc, name)?;
+    let mut text = file_text(alloc, store, &path)?;
+    let added = log_text(alloc, line)?;
+    text.extend_from_slice(&added)?;
+    put_file(alloc, store, path, &text)
+}
+
+/// Adds a line at the end of HEAD's log.
+#[tactic(auto, unfolding(crate::specs::Moves::head_logged))]
+fn log_head<S: Store>(alloc: Global, store: &mut S, line: &LogLine) -> Result<(), Halt<Lack>>
+    requires { IsLogValue line.now }
+    ensures turns { S.told → Turns (λ x. x) result (head_logged line.now (S.seen store.old).content) (S.seen store.new).content }
+    ensures elsewhere { S.told → (other : List ℕ) → eq_by_cmp path_cmp other (log_path head_name) ≡ false → map.get (S.seen store.new).content other ≡ map.get (S.seen store.old).content other }
+    ensures writes { Writes S.told halt_cause result (S.seen store.old) (S.seen store.new) }
+{
+    add_line(alloc, store, b"HEAD", line)
+}
+
+/// Adds a line at the end of the log of a ref, and of HEAD's.
+#[tactic(auto, unfolding(crate::specs::Moves::lines_added))]
+fn add_lines<S: Store>(
+    alloc: Global,
+    store: &mut S,
+    name: &[u8],
+    line: &LogLine,
+) -> Result<(), Halt<Lack>>
+    requires name { IsRefName name.now }
+    requires line { IsLogValue line.now }
+    ensures turns { S.told → Turns (λ x. x) result (lines_added name.now line.now (S.seen store.old).content) (S.seen store.new).content }
+    ensures elsewhere { S.told → (path : List ℕ) → IsElsewhere name.now path → map.get (S.seen store.new).content path ≡ map.get (S.seen store.old).content path }
+    ensures writes { Writes S.told halt_cause result (S.seen store.old) (S.seen store.new) }
+{
+    add_line(alloc, store, name, line)?;
+    log_head(alloc, store, line)
 }
 
 /// Moves HEAD's branch to a commit, with a line in its log and in HEAD's (git-update-ref(1)). The branch has the name of a ref;
-/// a log is kept of those below `refs/heads/`. At Err the draft may have some of the files.
-pub fn draft_branch<S: Store>(
+/// a log is kept of those below `refs/heads/`. A file or a folder in the way of one of the three files is `Way`, and those before
+/// it have been put.
+#[tactic(auto, unfolding(crate::specs::Moves::branch_moved))]
+pub fn move_branch<S: Store>(
     alloc: Global,
-    draft: &mut Draft,
     store: &mut S,
     branch: &[u8],
     id: Id,
     line: &LogLine,
-) -> Result<(), RefFault>
+) -> Result<(), Halt<Lack>>
     requires branch { IsRefName branch.now }
     requires line { IsLogValue line.now }
-    ensures moved { S.told → OnOk result (written (S.content store.old) draft.new ≡ move_head (written (S.content store.old) draft.old) (Head.Branch branch.now) id line.now) }
-    ensures named { OnOk result ((q : List ℕ) → is_written draft.new q ≡ (is_written draft.old q || is_moved branch.now q)) }
-    ensures free { S.told → OnOk result (are_free (S.content store.old) draft.old ≡ true → IsUnwritten draft.old branch.now → IsRepository (written (S.content store.old) draft.old) → IsWritable (written (S.content store.old) draft.old) branch.now → are_free (S.content store.old) draft.new ≡ true) }
+    ensures turns { S.told → Turns (λ x. x) result (branch_moved branch.now id line.now (S.seen store.old).content) (S.seen store.new).content }
 
-    // It follows from `free`, for a draft of files that a repository keeps in fixed places.
-    ensures behind_kept { S.told → OnOk result (IsRepository (S.content store.old) → AllByRecursion IsKept draft.old → is_written draft.old (log_path head_name) ≡ false → bytes_eq branch.now head_name ≡ false → IsWritable (written (S.content store.old) draft.old) branch.now → are_free (S.content store.old) draft.new ≡ true) }
-    ensures repository { S.told → OnOk result (IsRepository (written (S.content store.old) draft.old) → IsWritable (written (S.content store.old) draft.old) branch.now → IsRepository (written (S.content store.old) draft.new)) }
-    ensures in_place { OnOk result (AllByRecursion IsInPlace draft.old → AllByRecursion IsInPlace draft.new) }
-    ensures keeps { OnOk result ((w : World) → KeepsRepository w draft.old → IsWritable (written w draft.old) branch.now → KeepsRepository w draft.new) }
-    ensures same { S.told → S.content store.new ≡ S.content store.old }
-    ensures cause { HasReadCause result (S.faults store.old) (S.faults store.new) (S.blocked store.old) (S.blocked store.new) }
+    // It follows from `turns`, where it ends well or by a blocked put.
+    ensures elsewhere { S.told → (path : List ℕ) → IsElsewhere branch.now path → map.get (S.seen store.new).content path ≡ map.get (S.seen store.old).content path }
+    ensures writes { Writes S.told halt_cause result (S.seen store.old) (S.seen store.new) }
 {
-    draft_value(alloc, draft, branch, id)?;
-    draft_line(alloc, draft, store, branch, line)?;
-    draft_line(alloc, draft, store, b"HEAD", line)?;
-    Ok(())
+    set_ref(alloc, store, branch, id)?;
+    add_lines(alloc, store, branch, line)
 }

@@ -2,14 +2,9 @@
 #![tactic(auto)]
 
 mod branch;
-mod fault;
-mod log;
+mod file;
+mod laws;
 mod place;
-mod writable;
 
-pub use branch::draft_branch;
-pub use fault::RefFault;
-pub use writable::is_writable;
-
-#[cfg(test)]
-mod tests;
+pub use branch::move_branch;
+pub use laws::branch_is_moved;

@@ -3,6 +3,7 @@ use Rattle.std.specs.Prelude.{◌≡◌, ℕ, zero, suc, Bool, true, false, not,
 use Rattle.std.specs.FinMap as map
 use Rattle.std.specs.List.{filter, list_all, list_any, starts_with}
 use Rattle.std.specs.Str.{bytes_eq}
+use Rattle.seq_base.specs.Blanks.{is_blank}
 use Rattle.seq_base.specs.World.{World, is_blocked}
 use Rattle.ref_text.specs.declared.head.Head.{Head}
 use Rattle.ref_text.specs.declared.head.Head.TheVariants.{Branch, Detached}
@@ -23,10 +24,6 @@ packed_path = codes ".git/packed-refs"
 
 abbrev pub head_name : List ℕ
 head_name = codes "HEAD"
-
--- SP and TAB
-abbrev pub is_blank : ℕ → Bool
-is_blank b = b == 32 || b == 9
 
 -- a loose ref: a head's text, where blanks may stand at the end, and the LF may be missing
 pub record SpellsLoose (value : Head) (bytes : List ℕ) : Type 0 where

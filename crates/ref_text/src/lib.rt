@@ -15,8 +15,3 @@ pub use log::{LogLine, log_text};
 pub use packed::packed_text;
 pub use read_log::parse_log;
 pub use read_packed::parse_packed;
-
-#[cfg(test)]
-mod log_tests;
-#[cfg(test)]
-mod packed_tests;

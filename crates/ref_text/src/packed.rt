@@ -32,25 +32,3 @@ pub fn packed_text(alloc: Global, refs: &[(Bytes, Id)]) -> Result<Vec<u8>, Alloc
     }
     Ok(out)
 }
-
-#[cfg(test)]
-mod tests {
-    use super::*;
-    use seq_base::is_ref_name;
-    use std::test::Fail;
-
-    // As `git pack-refs --all` wrote them behind its first line.
-    #[test]
-    fn refs_are_written_as_git_writes_them(rt: HostRuntime) -> Result<(), Fail> {
-        let name = Vec::from_slice(rt.alloc(), b"refs/heads/master")?;
-        assert!(rt; is_ref_name(name.as_slice()));
-        let id = Id::from_hex(b"7A140ACC37E4AB8EEEA8E633D9BB4C93B8AC8CA7")?;
-        let refs = [(Bytes::from_vec(name), id)];
-        let text = packed_text(rt.alloc(), &refs)?;
-        assert!(rt;
-            text.as_slice()
-                == b"7a140acc37e4ab8eeea8e633d9bb4c93b8ac8ca7 refs/heads/master\n".as_slice()
-        );
-        Ok(())
-    }
-}

@@ -6,7 +6,5 @@ mod names;
 mod refusals;
 mod reports;
 mod stops;
-#[cfg(test)]
-mod tests;
 
 pub use reports::report;

@@ -9,6 +9,7 @@ pub mod Below
 pub mod HexCases
 pub mod PlainParts
 pub mod Lookups
+pub mod Halving
 pub mod Places
 pub mod Objects
 pub mod Repositories

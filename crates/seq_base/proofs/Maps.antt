@@ -20,7 +20,7 @@ set_is (x ∷ xs) (suc i) v lt =
     let k : suc i + 1 ≡ suc (i + 1) = omega arith in
     rw k (ap (λ (ys : List _). x ∷ ys) (set_is xs i v (omega arith)))
 
-less_is : (a b : List ℕ) → is_less a b ≡ true → slice_cmp nat_cmp a b ≡ Less
+pub less_is : (a b : List ℕ) → is_less a b ≡ true → slice_cmp nat_cmp a b ≡ Less
 less_is a b e = at (slice_cmp nat_cmp a b) e
   where
     at : (o : Ordering) → is_lt o ≡ true → o ≡ Less

@@ -1,11 +1,11 @@
 -- Why an entry is not put.
-use Rattle.std.specs.Prelude.{◌≡◌, ℕ, List, Some}
-use Rattle.seq_base.specs.PathMaps.{first_clash}
-use Rattle.seq_base.specs.declared.map.Entry.{Entry}
+use Rattle.std.specs.Prelude.{◌≡◌, Some}
+use Rattle.seq_base.specs.Words.{Path}
+use Rattle.seq_base.specs.PathMaps.{Entries, first_clash}
 use Rattle.seq_base.specs.declared.map.InsertFault.{InsertFault}
 use Rattle.seq_base.specs.declared.map.InsertFault.TheVariants.{Clash, Memory}
 
 -- the first path that clashes, or want of memory
-abbrev pub IsInsertFault : List (List ℕ × Entry) → List ℕ → InsertFault → Type 0
+abbrev pub IsInsertFault : Entries → Path → InsertFault → Type 0
 IsInsertFault es path (Clash other) = first_clash es path ≡ Some other
 IsInsertFault es path Memory = Unit {0}

@@ -1,3 +1,5 @@
+pub mod Words
+pub mod Blanks
 pub mod First
 pub mod Ids
 pub mod Modes

@@ -79,20 +79,3 @@ impl Ord for Bytes {
         self.held.cmp(&other.held)
     }
 }
-
-#[cfg(test)]
-mod tests {
-    use super::*;
-    use std::test::Fail;
-
-    #[test]
-    fn bytes_are_kept(rt: HostRuntime) -> Result<(), Fail> {
-        let bytes = Bytes::from_vec(Vec::from_slice(rt.alloc(), b"hello\n")?);
-        let copy = bytes.clone()?;
-        assert!(rt; copy == bytes);
-        assert!(rt; copy.as_slice() == b"hello\n".as_slice());
-        assert!(rt; bytes < Bytes::from_vec(Vec::from_slice(rt.alloc(), b"hello\r")?));
-        assert!(rt; copy.into_vec().as_slice() == b"hello\n".as_slice());
-        Ok(())
-    }
-}

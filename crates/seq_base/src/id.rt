@@ -3,7 +3,7 @@
 ghost use Rattle.std.specs.Prelude.{ℕ, ◌≡◌, ◌≢◌, length, IfOk, IfErr};
 ghost use Rattle.hex.specs.Hex.{IsBytes, encode_lower, is_hex_digit};
 ghost use Rattle.seq_base.specs.First.{IsFirstFailing};
-ghost use Rattle.seq_base.specs.Ids.{SpellsId};
+ghost use Rattle.seq_base.specs.Ids.{HasIdWidth, IsId, SpellsId};
 
 use hex::FromHexError;
 use std::alloc::{AllocError, Global};
@@ -49,7 +49,7 @@ impl Id {
 
     pub fn bytes(&self) -> &[u8]
         ensures same { result.now ≡ self.now }
-        ensures twenty { length self.now ≡ 20 }
+        ensures width { HasIdWidth self.now }
         ensures bytes { IsBytes self.now }
     {
         &self.held
@@ -60,7 +60,7 @@ impl Id {
     pub fn hex(&self, alloc: Global) -> Result<Vec<u8>, AllocError>
         ensures digits { IfOk result (λ text. text.items ≡ encode_lower self.now) }
         ensures forty { IfOk result (λ text. length text.items ≡ 40) }
-        ensures bytes { IsBytes self.now × (length self.now ≡ 20) }
+        ensures id { IsId self.now }
     {
         Ok(hex::encode(alloc, self.held.as_slice())?.into_bytes())
     }
@@ -85,53 +85,6 @@ impl Id {
                 }),
                 _ => unreachable!(),
             },
-        }
-    }
-}
-
-#[cfg(test)]
-mod tests {
-    use super::*;
-    use std::test::Fail;
-
-    // The id of the empty tree, as `git hash-object -t tree /dev/null` prints it.
-    const EMPTY_TREE: [u8; 20] = [
-        0x4b, 0x82, 0x5d, 0xc6, 0x42, 0xcb, 0x6e, 0xb9, 0xa0, 0x60, 0xe5, 0x4b, 0xf8, 0xd6, 0x92,
-        0x88, 0xfb, 0xee, 0x49, 0x04,
-    ];
-
-    #[test]
-    fn hex_is_read_in_either_case(rt: HostRuntime) -> Result<(), Fail> {
-        let id = Id::from_bytes(EMPTY_TREE);
-        assert!(rt; id.bytes() == EMPTY_TREE.as_slice());
-        let hex = id.hex(rt.alloc())?;
-        assert!(rt; hex.as_slice() == b"4b825dc642cb6eb9a060e54bf8d69288fbee4904".as_slice());
-        let texts: [&[u8]; 2] = [
-            b"4B825DC642CB6EB9A060E54BF8D69288FBEE4904",
-            b"4b825dc642cb6eb9A060E54BF8D69288fbee4904",
-        ];
-        for text in texts {
-            assert!(rt; Id::from_hex(text) == Ok(id));
-        }
-        Ok(())
-    }
-
-    #[test]
-    fn other_text_is_no_id(rt: HostRuntime) {
-        let rows: [(&[u8], IdFault); 4] = [
-            (b"", IdFault::Length { found: 0 }),
-            (b"4b825dc", IdFault::Length { found: 7 }),
-            (
-                b"4b825dc642cb6eb9a060e54bf8d69288fbee490g",
-                IdFault::Digit { at: 39 },
-            ),
-            (
-                b"4b825dc6-2cb6eb9a060e54bf8d69288fbee490g",
-                IdFault::Digit { at: 8 },
-            ),
-        ];
-        for (text, fault) in rows {
-            assert!(rt; Id::from_hex(text) == Err(fault));
         }
     }
 }

@@ -5,7 +5,7 @@ ghost use Rattle.std.specs.Char.{to_ascii_lowercase};
 ghost use Rattle.std.specs.List.{AllPairs, join_with_byte};
 ghost use Rattle.std.specs.Str.{IsUtf8};
 ghost use Rattle.hex.specs.Hex.{encode_lower, encode_upper};
-ghost use Rattle.seq_base.specs.Ids.{SpellsId};
+ghost use Rattle.seq_base.specs.Ids.{HasIdWidth, SpellsId};
 ghost use Rattle.seq_base.specs.Modes.{mode_number, mode_text, octal};
 ghost use Rattle.seq_base.specs.PathMaps.{IsPathMap, clashes, entry_at, is_folder_of, is_less, put};
 ghost use Rattle.seq_base.specs.RefNames.{IsRefName};
@@ -25,7 +25,7 @@ pub fn mode_digits_spell_number(mode: Mode)
 
 /// Text reads as an id exactly where it is the id's hex with its letters in either case. So what `hex` writes reads back.
 pub fn hex_reads_back(id: &[u8], text: &[u8])
-    requires { length id.now ≡ 20 }
+    requires { HasIdWidth id.now }
     ensures either_case { SpellsId id.now text.now ↔ (map to_ascii_lowercase text.now ≡ encode_lower id.now) }
     ensures lower { SpellsId id.now (encode_lower id.now) }
     ensures upper { SpellsId id.now (encode_upper id.now) }

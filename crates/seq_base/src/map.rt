@@ -1,12 +1,14 @@
 //! Maps from paths to entries.
 
 ghost use Rattle.std.specs.Prelude.{◌≡◌, ◌≢◌, ◌≤◌, IfErr, MatchOption, None, OnErr, OnOk, Some, [], length, slice_get};
+ghost use Rattle.std.specs.Cmp.Lexicographic.{slice_cmp};
+ghost use Rattle.std.specs.Ordering.{nat_cmp};
 ghost use Rattle.seq_base.specs.PathMaps.{is_less, is_folder_of, clashes, entry_at, put, first_clash, IsPathMap, IsPlace};
 ghost use Rattle.seq_base.specs.InsertFaults.{IsInsertFault};
 
 use crate::id::Id;
 use crate::mode::Mode;
-use crate::path::Path;
+use crate::path::{Path, comes_before};
 use std::alloc::{AllocError, Global};
 use std::cmp::Ordering;
 use std::marker::Model;
@@ -84,6 +86,7 @@ impl PathMap {
         }
     }
 
+    /// What the map has at a path, found by halving.
     pub fn get(&self, path: &Path) -> Option<Entry>
         ensures { result ≡ entry_at self.now path.now }
     {
@@ -118,14 +121,16 @@ impl PathMap {
 }
 
 fn entry_of(entries: &[(Path, Entry)], path: &Path) -> Option<Entry>
+    requires { IsPathMap entries.now }
     ensures { result ≡ entry_at entries.now path.now }
 {
-    for e in entries {
-        if e.0 == *path {
-            return Some(e.1);
-        }
+    let order = |e: &(Path, Entry)| -> Ordering
+        ensures { result ≡ slice_cmp nat_cmp e.now.0 path.entry.now }
+    { e.0.cmp(path) };
+    match entries.binary_search_by(order) {
+        Ok(n) => Some(entries[n].1),
+        Err(_) => None,
     }
-    None
 }
 
 fn is_below(folder: &[u8], path: &[u8]) -> bool
@@ -149,15 +154,6 @@ fn clash_of<'a>(entries: &'a [(Path, Entry)], path: &Path) -> Option<&'a Path>
         }
     }
     None
-}
-
-fn comes_before(a: &[u8], b: &[u8]) -> bool
-    ensures { result ≡ is_less a.now b.now }
-{
-    match a.cmp(b) {
-        Ordering::Less => true,
-        Ordering::Equal | Ordering::Greater => false,
-    }
 }
 
 /// Where the path stands, or is to stand, and whether it is there.
@@ -186,67 +182,4 @@ fn put_entry(entries: &mut Vec<(Path, Entry)>, path: Path, entry: Entry) -> Resu
     }
     entries.insert(i, (path, entry))?;
     Ok(())
-}
-
-#[cfg(test)]
-mod tests {
-    use super::*;
-    use std::test::Fail;
-
-    fn entry(mode: Mode, first: u8) -> Entry
-        ensures { result.mode ≡ mode }
-    {
-        let mut bytes = [0; 20];
-        bytes[0] = first;
-        Entry {
-            mode,
-            id: Id::from_bytes(bytes),
-        }
-    }
-
-    // The order is that of `git ls-files`: `a-b` before `a/b`, since `-` is below `/`.
-    #[test]
-    fn entries_stand_in_byte_order(rt: HostRuntime) -> Result<(), Fail> {
-        let alloc = rt.alloc();
-        let mut map = PathMap::new(alloc);
-        map.insert(Path::new(alloc, b"a/b")?, entry(Mode::File, 1))?;
-        map.insert(Path::new(alloc, b"a0")?, entry(Mode::Link, 2))?;
-        map.insert(Path::new(alloc, b"a-b")?, entry(Mode::Exec, 3))?;
-        map.insert(Path::new(alloc, b"a/b")?, entry(Mode::File, 4))?;
-        assert_eq!(rt; map.len(), 3);
-        let names: [&[u8]; 3] = [b"a-b", b"a/b", b"a0"];
-        for (n, name) in names.iter().enumerate() {
-            match map.at(n) {
-                Some((path, _)) => assert!(rt; path.bytes() == *name),
-                None => assert!(rt; false),
-            }
-        }
-        assert!(rt; map.at(3).is_none());
-        assert!(rt; map.get(&Path::new(alloc, b"a/b")?) == Some(entry(Mode::File, 4)));
-        assert!(rt; map.get(&Path::new(alloc, b"a")?) == None);
-        Ok(())
-    }
-
-    fn clashes_with(map: &mut PathMap, path: Path, other: &[u8]) -> bool {
-        match map.insert(path, entry(Mode::File, 9)) {
-            Err(InsertFault::Clash { other: found }) => found.bytes() == other,
-            _ => false,
-        }
-    }
-
-    // A path is a file or a folder: the first of `d/a` and `d/b` stands in the way of a file `d`, and a file `e` in that of `e/a`.
-    #[test]
-    fn no_file_is_also_a_folder(rt: HostRuntime) -> Result<(), Fail> {
-        let alloc = rt.alloc();
-        let mut map = PathMap::new(alloc);
-        for bytes in [b"d/b".as_slice(), b"d/a", b"e"] {
-            map.insert(Path::new(alloc, bytes)?, entry(Mode::File, 1))?;
-        }
-        assert!(rt; clashes_with(&mut map, Path::new(alloc, b"d")?, b"d/a"));
-        assert!(rt; clashes_with(&mut map, Path::new(alloc, b"e/a")?, b"e"));
-        assert!(rt; clashes_with(&mut map, Path::new(alloc, b"e/a/b/c")?, b"e"));
-        assert_eq!(rt; map.len(), 3);
-        map.insert(Path::new(alloc, b"d.c")?, entry(Mode::File, 1))?;
-        Ok(())
-    }
 }

@@ -41,28 +41,3 @@ impl Mode {
         }
     }
 }
-
-#[cfg(test)]
-mod tests {
-    use super::*;
-
-    // The texts and numbers are those that `git ls-tree` prints and `git ls-files -s` has, in base 8 and by `printf %d 0100644`.
-    #[test]
-    fn modes_have_gits_numbers(rt: HostRuntime) {
-        let rows: [(&[u8], Mode, u32); 5] = [
-            (b"100644", Mode::File, 33188),
-            (b"100755", Mode::Exec, 33261),
-            (b"120000", Mode::Link, 40960),
-            (b"160000", Mode::Gitlink, 57344),
-            (b"40000", Mode::Folder, 16384),
-        ];
-        for (text, mode, number) in rows {
-            assert!(rt; Mode::read(text) == Some(mode));
-            assert_eq!(rt; mode.number(), number);
-        }
-        let others: [&[u8]; 5] = [b"", b"040000", b"100664", b"100644 ", b"1006440"];
-        for text in others {
-            assert!(rt; Mode::read(text) == None);
-        }
-    }
-}

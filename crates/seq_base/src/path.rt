@@ -9,10 +9,11 @@ ghost use Rattle.std.specs.Cmp.Rules.{comparing};
 ghost use Rattle.std.specs.List.{list_all};
 ghost use Rattle.std.specs.Ordering.{nat_cmp, as_partial_cmp};
 ghost use Rattle.std.specs.Str.{bytes_eq};
+ghost use Rattle.seq_base.specs.PathMaps.{is_less};
 ghost use Rattle.seq_base.specs.Paths.{is_special, is_part, parts, first_bad, IsPath, IsPathFault, IsPathFaultOrMemory};
 ghost use Rattle.seq_base.specs.StorePaths.{IsStorePath};
 
-use std::alloc::Global;
+use std::alloc::{AllocError, Global};
 use std::cmp::Ordering;
 use std::marker::Model;
 use thiserror::Error;
@@ -33,6 +34,16 @@ pub enum PathFault {
     BadPart { at: u64 },
     #[error("out of memory")]
     Memory,
+}
+
+/// Whether a path comes before another, in the order of their bytes.
+pub fn comes_before(a: &[u8], b: &[u8]) -> bool
+    ensures { result ≡ is_less a.now b.now }
+{
+    match a.cmp(b) {
+        Ordering::Less => true,
+        Ordering::Equal | Ordering::Greater => false,
+    }
 }
 
 fn is_dot_git(part: &[u8]) -> bool
@@ -133,6 +144,13 @@ impl Path {
         }
     }
 
+    /// What `clone` makes.
+    pub fn copy(&self) -> Result<Path, AllocError>
+        ensures { IfOk result (λ copy. copy ≡ self.now) }
+    {
+        self.clone()
+    }
+
     #[tactic(auto, using(crate::proofs::StorePathLemmas::path_is_store_path))]
     pub fn bytes(&self) -> &[u8]
         ensures same { result.now ≡ self.now }
@@ -178,62 +196,5 @@ impl PartialOrd for Path {
 
     fn partial_cmp(&self, other: &Path) -> Option<Ordering> {
         Some(self.cmp(other))
-    }
-}
-
-#[cfg(test)]
-mod tests {
-    use super::*;
-    use std::test::Fail;
-
-    // What `git fsck` and `git update-index --add --cacheinfo` refuse, and the place that is told.
-    #[test]
-    fn bad_paths_are_told(rt: HostRuntime) {
-        let rows: [(&[u8], PathFault); 14] = [
-            (b"", PathFault::Empty),
-            (b"a\xc3\x28", PathFault::NotUtf8 { at: 1 }),
-            (b"/a", PathFault::BadPart { at: 0 }),
-            (b"a//b", PathFault::BadPart { at: 2 }),
-            (b"a/", PathFault::BadPart { at: 2 }),
-            (b".", PathFault::BadPart { at: 0 }),
-            (b"a/./b", PathFault::BadPart { at: 2 }),
-            (b"..", PathFault::BadPart { at: 0 }),
-            (b"ab/../c", PathFault::BadPart { at: 3 }),
-            (b".git", PathFault::BadPart { at: 0 }),
-            (b".GIT/config", PathFault::BadPart { at: 0 }),
-            (b"sub/.Git/hooks", PathFault::BadPart { at: 4 }),
-            (b"a/b\0c/..", PathFault::BadPart { at: 2 }),
-            (b"..\xff", PathFault::NotUtf8 { at: 2 }),
-        ];
-        for (bytes, fault) in rows {
-            assert!(rt; Path::check(bytes) == Err(fault));
-        }
-        for bytes in [
-            b"a".as_slice(),
-            b".gitignore",
-            b"a/.github/b",
-            b"...",
-            b"a b/\xc3\xa9",
-        ] {
-            assert!(rt; Path::check(bytes) == Ok(()));
-        }
-    }
-
-    #[test]
-    fn a_path_has_4095_bytes_at_most(rt: HostRuntime) {
-        assert!(rt; Path::check([b'a'; 4095].as_slice()) == Ok(()));
-        assert!(rt;
-            Path::check([b'a'; 4096].as_slice()) == Err(PathFault::TooLong { length: 4096 })
-        );
-    }
-
-    #[test]
-    fn a_path_is_made_and_copied(rt: HostRuntime) -> Result<(), Fail> {
-        let path = Path::new(rt.alloc(), b"a/b")?;
-        assert!(rt; path.bytes() == b"a/b".as_slice());
-        let copy = path.clone()?;
-        assert!(rt; copy == path);
-        assert!(rt; path < Path::new(rt.alloc(), b"a/c")?);
-        Ok(())
     }
 }

@@ -4,6 +4,7 @@ ghost use Rattle.std.specs.Prelude.{◌≡◌, ◌==◌, codes, not};
 ghost use Rattle.std.specs.List.{list_all};
 ghost use Rattle.std.specs.Str.{bytes_eq};
 ghost use Rattle.seq_base.specs.Paths.{parts};
+ghost use Rattle.seq_base.specs.World.{is_below};
 ghost use Rattle.seq_base.specs.StorePaths.{is_store_part, is_store_path as is_store_path_of, is_text as is_text_of};
 
 fn is_part(part: &[u8]) -> bool
@@ -42,25 +43,9 @@ pub fn is_store_path(path: &[u8]) -> bool
     is_text(path) && has_good_parts(path)
 }
 
-#[cfg(test)]
-mod tests {
-    use super::*;
-
-    #[test]
-    fn store_paths_stay_at_the_root(rt: HostRuntime) {
-        for path in [b".git/HEAD".as_slice(), b"a", b".GIT/x", b"\xc3\xa9"] {
-            assert!(rt; is_store_path(path));
-        }
-        for path in [
-            b"".as_slice(),
-            b"/a",
-            b"a/",
-            b"a/../b",
-            b"./a",
-            b"a\0",
-            b"\xff",
-        ] {
-            assert!(rt; !is_store_path(path));
-        }
-    }
+/// Whether the path lies below the other, taken as a folder.
+pub fn lies_below(folder: &[u8], path: &[u8]) -> bool
+    ensures { result ≡ is_below folder.now path.now }
+{
+    path.starts_with(folder) && folder.len() < path.len() && path[folder.len()] == b'/'
 }

@@ -1,10 +1,9 @@
 -- What an invocation answers, by its words and by what the store holds.
-use Rattle.std.specs.FinMap as map
 use Rattle.std.specs.Prelude.{◌≡◌, ◌⊎◌, ℕ, ℤ, ◌++◌, take, List, Some, Result, Ok, Err}
+use Rattle.seq_base.specs.Words.{Id, Text}
 use Rattle.seq_base.specs.World.{World}
-use Rattle.seq_model.specs.Changes.{Changes}
-use Rattle.seq_model.specs.Making.{Made}
-use Rattle.seq_model.specs.Pick.{picked}
+use Rattle.seq_model.specs.Changes.{KeepsRepository}
+use Rattle.seq_model.specs.Picked.{picked}
 use Rattle.seq_model.specs.Report.{report_of}
 use Rattle.seq_model.specs.Words.{words_read}
 use Rattle.seq_model.specs.declared.outcome.Outcome.{Outcome}
@@ -13,67 +12,24 @@ use Rattle.seq_model.specs.declared.denial.Denial.{Denial}
 use Rattle.seq_model.specs.declared.denial.Denial.TheVariants as denied
 use Rattle.seq_model.specs.declared.usage.UsageFault.{UsageFault}
 use Rattle.seq_outside.specs.Causes.{Rose}
+use Rattle.seq_outside.specs.Seen.{Seen}
+use Rattle.seq_outside.specs.Writes.{IsToward}
 use Rattle.seq_outside.specs.declared.env.Env.{Env}
 
-abbrev pub ended : Result Made Denial → Outcome
-ended (Ok made) = Done (Some made.head)
+-- ---- what is answered, and what it leaves
+
+-- the outcome of a pick
+abbrev pub ended : Result (Id × World) Denial → Outcome
+ended (Ok made) = Done (Some made.0)
 ended (Err (denied.Refused refusal)) = Refused refusal
 ended (Err (denied.Limit what number)) = Limit what number
 
-abbrev pub answer_to : Result (List ℕ) UsageFault → Env → ℤ → World → Outcome
-answer_to (Ok word) env secs w = ended (picked env secs w word)
-answer_to (Err fault) env secs w = Usage fault
+-- the world that a pick makes, or the one that it was asked in
+abbrev pub aimed : World → Result (Id × World) Denial → World
+aimed w (Ok made) = made.1
+aimed w (Err denial) = w
 
--- the answer, where nothing fails and memory is ample; the seconds are those at which a commit is made
-abbrev pub answer_of : List (List ℕ) → Env → ℤ → World → Outcome
-answer_of words env secs w = answer_to (words_read words) env secs w
-
-abbrev pub made_world : World → Result Made Denial → World
-made_world w (Ok made) = made.world
-made_world w (Err denial) = w
-
-abbrev pub aim_to : Result (List ℕ) UsageFault → Env → ℤ → World → World
-aim_to (Ok word) env secs w = made_world w (picked env secs w word)
-aim_to (Err fault) env secs w = w
-
--- the world that an invocation leaves, where nothing fails and memory is ample
-abbrev pub aim_of : List (List ℕ) → Env → ℤ → World → World
-aim_of words env secs w = aim_to (words_read words) env secs w
-
--- each file is as it was, or as in the world that was aimed at
-abbrev pub IsBetween : World → World → World → Type 0
-IsBetween old aim new = (path : List ℕ) → (map.get new path ≡ map.get old path) ⊎ (map.get new path ≡ map.get aim path)
-
--- What an outcome leaves: the world that was aimed at where all is done, what stood where it is refused, and after a fault of the store or
--- want of memory each file as it stood or as it was to be.
-abbrev pub Leaves : Outcome → World → World → World → Type 0
-Leaves (Done head) old aim new = new ≡ aim
-Leaves (Stopped kind paths) old aim new = ⊥
-Leaves (Usage fault) old aim new = new ≡ old
-Leaves (Refused refusal) old aim new = new ≡ old
-Leaves StoreFault old aim new = IsBetween old aim new
-Leaves ChildFault old aim new = ⊥
-Leaves OutputFault old aim new = ⊥
-Leaves (Limit what number) old aim new = new ≡ old
-Leaves Memory old aim new = IsBetween old aim new
-
-abbrev pub IsRead : Result (List ℕ) UsageFault → Type 0
-IsRead (Ok word) = Unit {0}
-IsRead (Err fault) = ⊥
-
--- By the words alone: Usage exactly where they are bad, want of memory aside.
-abbrev pub FitsWords : Outcome → Result (List ℕ) UsageFault → Type 0
-FitsWords (Usage fault) read = read ≡ Err fault
-FitsWords Memory read = Unit {0}
-FitsWords (Done head) read = IsRead read
-FitsWords (Stopped kind paths) read = IsRead read
-FitsWords (Refused refusal) read = IsRead read
-FitsWords StoreFault read = IsRead read
-FitsWords ChildFault read = ⊥
-FitsWords OutputFault read = ⊥
-FitsWords (Limit what number) read = IsRead read
-
--- By what the store holds: the answer, unless the store failed or memory ran out.
+-- By what is meant: the answer, unless the store failed or memory ran out.
 abbrev pub FitsWorld : Outcome → Outcome → Type 0
 FitsWorld (Done head) answer = answer ≡ Done head
 FitsWorld (Stopped kind paths) answer = answer ≡ Stopped kind paths
@@ -84,6 +40,88 @@ FitsWorld ChildFault answer = ⊥
 FitsWorld OutputFault answer = ⊥
 FitsWorld (Limit what number) answer = answer ≡ Limit what number
 FitsWorld Memory answer = Unit {0}
+
+-- What an outcome leaves: the world that was aimed at where all is done, what stood where it is refused, and after a fault of the store or
+-- want of memory a front of the changes that lead to that world, objects before all else.
+abbrev pub Leaves : Outcome → World → World → World → Type 0
+Leaves (Done head) old aim new = new ≡ aim
+Leaves (Stopped kind paths) old aim new = ⊥
+Leaves (Usage fault) old aim new = new ≡ old
+Leaves (Refused refusal) old aim new = new ≡ old
+Leaves StoreFault old aim new = IsToward old aim new
+Leaves ChildFault old aim new = ⊥
+Leaves OutputFault old aim new = ⊥
+Leaves (Limit what number) old aim new = new ≡ old
+Leaves Memory old aim new = IsToward old aim new
+
+-- the outcome is what was meant, and leaves what it is to
+pub record Fits (old new : World) (means : Result (Id × World) Denial) (outcome : Outcome) : Type 0 where
+  pub answer : FitsWorld outcome (ended means)
+  pub leaves : Leaves outcome old (aimed old means) new
+
+-- nothing was made
+abbrev pub IsUnmade : Outcome → Type 0
+IsUnmade (Done head) = ⊥
+IsUnmade (Stopped kind paths) = ⊥
+IsUnmade (Usage fault) = ⊥
+IsUnmade (Refused refusal) = Unit {0}
+IsUnmade StoreFault = Unit {0}
+IsUnmade ChildFault = ⊥
+IsUnmade OutputFault = ⊥
+IsUnmade (Limit what number) = Unit {0}
+IsUnmade Memory = Unit {0}
+
+-- an outcome that a pick may have
+abbrev pub IsOfPick : Outcome → Type 0
+IsOfPick (Done head) = Unit {0}
+IsOfPick (Stopped kind paths) = ⊥
+IsOfPick (Usage fault) = ⊥
+IsOfPick (Refused refusal) = Unit {0}
+IsOfPick StoreFault = Unit {0}
+IsOfPick ChildFault = ⊥
+IsOfPick OutputFault = ⊥
+IsOfPick (Limit what number) = Unit {0}
+IsOfPick Memory = Unit {0}
+
+-- ---- moments
+
+-- It was judged at a moment that the clock told.
+pub record IsAtMoment {C : Type 0} (told : Type 0) (ticked : C → ℤ → C → Type 0) (means : ℤ → Result (Id × World) Denial) (old : World) (clock : C) (new : World) (clock' : C) (outcome : Outcome) : Type 0 where
+  pub secs : ℤ
+  pub ticks : ticked clock secs clock'
+  pub fits : told → Fits old new (means secs) outcome
+
+-- It was judged at no moment: whatever the moment, it is so, and nothing is changed.
+pub record IsAtNone {C : Type 0} (told : Type 0) (means : ℤ → Result (Id × World) Denial) (old : World) (clock : C) (new : World) (clock' : C) (outcome : Outcome) : Type 0 where
+  pub ticks_not : clock' ≡ clock
+  pub unmade : IsUnmade outcome
+  pub fits : told → (secs : ℤ) → FitsWorld outcome (ended (means secs))
+  pub same : told → new ≡ old
+
+-- at the one or the other
+abbrev pub IsJudged : {C : Type 0} → Type 0 → (C → ℤ → C → Type 0) → (ℤ → Result (Id × World) Denial) → World → C → World → C → Outcome → Type 0
+IsJudged told ticked means old clock new clock' outcome = IsAtMoment told ticked means old clock new clock' outcome ⊎ IsAtNone told means old clock new clock' outcome
+
+-- A pick of the commit that a word names: a moment before the store is asked, and one for the commit.
+pub record Picks {C : Type 0} (told : Type 0) (ticked : C → ℤ → C → Type 0) (env : Env) (word : Text) (old : World) (clock : C) (new : World) (clock' : C) (outcome : Outcome) : Type 0 where
+  pub first : ℤ
+  pub between : C
+  pub ticks : ticked clock first between
+  pub kind : IsOfPick outcome
+  pub judged : IsJudged told ticked (λ secs. picked env secs word old) old between new clock' outcome
+
+-- Bad words: Usage, or want of memory to say the word; neither the store nor the clock was asked.
+pub record IsUsage {C : Type 0} (told : Type 0) (fault : UsageFault) (old : World) (clock : C) (new : World) (clock' : C) (outcome : Outcome) : Type 0 where
+  pub answer : (outcome ≡ Usage fault) ⊎ (outcome ≡ Memory)
+  pub clock_same : clock' ≡ clock
+  pub same : told → new ≡ old
+
+-- by the words
+abbrev pub Judges : {C : Type 0} → Type 0 → (C → ℤ → C → Type 0) → Result Text UsageFault → Env → World → C → World → C → Outcome → Type 0
+Judges told ticked (Ok word) env old clock new clock' outcome = Picks told ticked env word old clock new clock' outcome
+Judges told ticked (Err fault) env old clock new clock' outcome = IsUsage told fault old clock new clock' outcome
+
+-- ---- printing
 
 -- What was judged is the outcome, unless it could not be printed or memory ran out.
 abbrev pub FitsJudged : Outcome → Outcome → Type 0
@@ -113,39 +151,39 @@ Prints OutputFault judged old new = AddsPrefix old (report_of judged) new
 Prints (Limit what number) judged old new = new ≡ old ++ report_of judged
 Prints Memory judged old new = AddsPrefix old (report_of judged) new
 
--- Which counts rose with which outcome: StoreFault only with a count of the store, and where that of its faults rose only StoreFault,
--- OutputFault or Memory; OutputFault only with the sink's; ChildFault only with the spawner's, which no call moves.
-abbrev pub HasCause : Outcome → ℕ → ℕ → ℕ → ℕ → ℕ → ℕ → Type 0
-HasCause (Done head) store store' blocked blocked' sink sink' = store' ≡ store
-HasCause (Stopped kind paths) store store' blocked blocked' sink sink' = store' ≡ store
-HasCause (Usage fault) store store' blocked blocked' sink sink' = store' ≡ store
-HasCause (Refused refusal) store store' blocked blocked' sink sink' = store' ≡ store
-HasCause StoreFault store store' blocked blocked' sink sink' = Rose store store' ⊎ Rose blocked blocked'
-HasCause ChildFault store store' blocked blocked' sink sink' = ⊥
-HasCause OutputFault store store' blocked blocked' sink sink' = Rose sink sink'
-HasCause (Limit what number) store store' blocked blocked' sink sink' = store' ≡ store
-HasCause Memory store store' blocked blocked' sink sink' = Unit {0}
+-- ---- causes
 
--- The second moment is that of the commit: it is taken where one is made, and where nothing is done it may be.
-abbrev pub TakesSecond : {C : Type 0} → (C → ℤ → C → Type 0) → Outcome → C → ℤ → C → Type 0
-TakesSecond ticked (Done head) clock secs clock' = ticked clock secs clock'
-TakesSecond ticked outcome clock secs clock' = (clock' ≡ clock) ⊎ ticked clock secs clock'
+-- StoreFault comes only where a count of the store rose, that of faults where it tells what it holds; and where that of faults rose it is
+-- StoreFault, OutputFault or Memory. OutputFault comes only where the sink's count rose. No child is run.
+abbrev pub HasCause : Type 0 → Outcome → Seen → Seen → ℕ → ℕ → Type 0
+HasCause told (Done head) old new sink sink' = new.faults ≡ old.faults
+HasCause told (Stopped kind paths) old new sink sink' = new.faults ≡ old.faults
+HasCause told (Usage fault) old new sink sink' = new.faults ≡ old.faults
+HasCause told (Refused refusal) old new sink sink' = new.faults ≡ old.faults
+HasCause told StoreFault old new sink sink' = (Rose old.faults new.faults ⊎ Rose old.blocked new.blocked) × (told → Rose old.faults new.faults)
+HasCause told ChildFault old new sink sink' = ⊥
+HasCause told OutputFault old new sink sink' = Rose sink sink'
+HasCause told (Limit what number) old new sink sink' = new.faults ≡ old.faults
+HasCause told Memory old new sink sink' = Unit {0}
 
--- Bad words take no moment. Others take the first before the store is asked.
-abbrev pub TakesMoments : {C : Type 0} → (C → ℤ → C → Type 0) → Result (List ℕ) UsageFault → Outcome → C → ℤ → C → Type 0
-TakesMoments {C} ticked (Ok word) outcome clock secs clock' = (first : ℤ) × (between : C) × ticked clock first between × TakesSecond ticked outcome between secs clock'
-TakesMoments ticked (Err fault) outcome clock secs clock' = clock' ≡ clock
+-- ---- an invocation
 
--- An outcome of an invocation. `told` and `sink_told` hold of a store and of a sink that tell what they hold; `store`, `blocked` and `sink`
--- count their faults and blocked puts, before and after; `ticked` is what a clock tells.
-pub record Answers {C : Type 0} (told sink_told : Type 0) (ticked : C → ℤ → C → Type 0) (words : List (List ℕ)) (env : Env) (w w' : World) (clock clock' : C) (store store' blocked blocked' sink sink' : ℕ) (printed printed' : List ℕ) (outcome : Outcome) : Type 0 where
+-- what is seen of the outside as a call begins, or as it ends: of the store, the clock and the sink, with its count of faults
+pub record Outside (C : Type 0) : Type 0 where
+  pub store : Seen
+  pub clock : C
+  pub printed : Text
+  pub sink_faults : ℕ
+
+abbrev pub outside : {C : Type 0} → Seen → C → Text → ℕ → Outside C
+outside store clock printed sink_faults = record { store = store; clock = clock; printed = printed; sink_faults = sink_faults }
+
+-- An outcome of an invocation. `told` and `sink_told` hold of a store and of a sink that tell what they hold, and `ticked` is what a clock
+-- tells.
+pub record Answers {C : Type 0} (told sink_told : Type 0) (ticked : C → ℤ → C → Type 0) (words : List Text) (env : Env) (old new : Outside C) (outcome : Outcome) : Type 0 where
   pub judged : Outcome
-  pub secs : ℤ
-  pub moments : TakesMoments ticked (words_read words) judged clock secs clock'
-  pub fits_words : FitsWords judged (words_read words)
-  pub fits_world : told → FitsWorld judged (answer_of words env secs w)
-  pub leaves : told → Leaves judged w (aim_of words env secs w) w'
-  pub changes : told → Changes w w' judged store store'
+  pub judges : Judges told ticked (words_read words) env old.store.content old.clock new.store.content new.clock judged
+  pub keeps : told → KeepsRepository old.store.content new.store.content
   pub fits_judged : FitsJudged outcome judged
-  pub prints : sink_told → Prints outcome judged printed printed'
-  pub cause : HasCause outcome store store' blocked blocked' sink sink'
+  pub prints : sink_told → Prints outcome judged old.printed new.printed
+  pub cause : HasCause told outcome old.store new.store old.sink_faults new.sink_faults

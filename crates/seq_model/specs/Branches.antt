@@ -7,7 +7,7 @@ use Rattle.ref_text.specs.Refs.{ref_path}
 use Rattle.seq_base.specs.RefNames.{is_ref_name}
 use Rattle.seq_base.specs.World.{World}
 use Rattle.seq_model.specs.Ids.{line_in, id_line_in}
-use Rattle.seq_model.specs.Refusing.{◌>>=◌, or_refuse}
+use Rattle.seq_model.specs.Refusing.{or_refuse}
 use Rattle.seq_model.specs.declared.denial.Denial.{Denial}
 use Rattle.seq_model.specs.declared.refusal.Refusal.TheVariants.{NotARepository, NotBuilt}
 

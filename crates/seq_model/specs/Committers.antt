@@ -3,7 +3,8 @@ use Rattle.std.specs.Prelude.{ℕ, Bool, not, ◌&&◌, ◌==◌, if◌then◌el
 use Rattle.std.specs.List.{list_all}
 use Rattle.std.specs.Str.{bytes_eq}
 use Rattle.ident_text.specs.Idents.{is_ident_byte}
-use Rattle.seq_model.specs.Refusing.{◌>>=◌, or_refuse}
+use Rattle.seq_outside.specs.Halts.{◌>>=◌}
+use Rattle.seq_model.specs.Refusing.{or_refuse}
 use Rattle.seq_model.specs.declared.committer.Committer.{Committer}
 use Rattle.seq_model.specs.declared.denial.Denial.{Denial}
 use Rattle.seq_model.specs.declared.refusal.Refusal.TheVariants.{NotBuilt}

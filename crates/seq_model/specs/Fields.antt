@@ -4,7 +4,7 @@ use Rattle.std.specs.Fmt.{decimal}
 use Rattle.hex.specs.Hex.{encode_lower}
 use Rattle.seq_model.specs.LimitWhats.{limit_what_name}
 use Rattle.seq_model.specs.TodoKinds.{todo_kind_name}
-use Rattle.seq_model.specs.declared.limit.LimitWhat.{LimitWhat}
+use Rattle.seq_outside.specs.declared.limit.LimitWhat.{LimitWhat}
 use Rattle.todo_text.specs.declared.todo_kind.TodoKind.{TodoKind}
 use Rattle.seq_outside.specs.declared.child.Exit.{Exit}
 use Rattle.seq_outside.specs.declared.child.Exit.TheVariants.{Code, Killed}

@@ -14,8 +14,8 @@ pub mod Ids
 pub mod Branches
 pub mod Unbuilt
 pub mod Committers
-pub mod Commits
 pub mod Making
-pub mod Changes
 pub mod Pick
+pub mod Picked
+pub mod Changes
 pub mod Answers

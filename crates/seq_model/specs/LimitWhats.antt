@@ -1,7 +1,7 @@
 -- The names of what has a limit.
 use Rattle.std.specs.Prelude.{ℕ, List, codes}
-use Rattle.seq_model.specs.declared.limit.LimitWhat.{LimitWhat}
-use Rattle.seq_model.specs.declared.limit.LimitWhat.TheVariants.{ObjectBytes, TreeDepth, IndexEntries, TodoLines, TodoBytes, Labels, Parents, Commits, Jobs}
+use Rattle.seq_outside.specs.declared.limit.LimitWhat.{LimitWhat}
+use Rattle.seq_outside.specs.declared.limit.LimitWhat.TheVariants.{ObjectBytes, TreeDepth, IndexEntries, TodoLines, TodoBytes, Labels, Parents, Commits, Jobs}
 
 abbrev pub limit_what_name : LimitWhat → List ℕ
 limit_what_name ObjectBytes = codes "object-bytes"

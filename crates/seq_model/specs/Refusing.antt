@@ -1,31 +1,35 @@
--- Steps that may be denied, one after another: the first denial is the answer.
-use Rattle.std.specs.Prelude.{ℕ, Bool, true, false, Option, Some, None, Result, Ok, Err}
+-- What an invocation is denied for, step by step.
+use Rattle.std.specs.Prelude.{ℕ, Bool, Option, Result}
+use Rattle.seq_outside.specs.Halts.{or_stop, stop_found, stop_if}
+use Rattle.seq_outside.specs.declared.lack.Lack.{Lack}
+use Rattle.seq_outside.specs.declared.lack.Lack.TheVariants as lacks
 use Rattle.seq_model.specs.declared.denial.Denial.{Denial}
-use Rattle.seq_model.specs.declared.denial.Denial.TheVariants.{Refused}
+use Rattle.seq_model.specs.declared.denial.Denial.TheVariants.{Refused, Limit}
 use Rattle.seq_model.specs.declared.refusal.Refusal.{Refusal}
-
--- the next step, where nothing is denied
-infixl 10 ◌>>=◌
-abbrev pub ◌>>=◌ : {A B : Type 0} → Result A Denial → (A → Result B Denial) → Result B Denial
-(Ok x) >>= next = next x
-(Err denial) >>= next = Err denial
+use Rattle.seq_model.specs.declared.refusal.Refusal.TheVariants.{BadObject, NotBuilt, WouldOverwrite}
 
 -- what is there, or the refusal
 abbrev pub or_refuse : {A : Type 0} → Option A → Refusal → Result A Denial
-or_refuse (Some x) refusal = Ok x
-or_refuse None refusal = Err (Refused refusal)
+or_refuse found refusal = or_stop found (Refused refusal)
 
 -- the refusal, where the test holds
 abbrev pub refuse_if : Bool → Refusal → Result (Unit {0}) Denial
-refuse_if true refusal = Err (Refused refusal)
-refuse_if false refusal = Ok tt
+refuse_if test refusal = stop_if test (Refused refusal)
 
 -- the refusal of what was found, if something was
 abbrev pub refuse_found : {A : Type 0} → Option A → (A → Refusal) → Result (Unit {0}) Denial
-refuse_found (Some x) refusal = Err (Refused (refusal x))
-refuse_found None refusal = Ok tt
+refuse_found found refusal = stop_found found (λ x. Refused (refusal x))
 
--- the denial, where the test holds
-abbrev pub deny_if : Bool → Denial → Result (Unit {0}) Denial
-deny_if true denial = Err denial
-deny_if false denial = Ok tt
+-- what objects that are read, and files of the worktree that are written, lack
+abbrev pub denied_file : Lack → Denial
+denied_file (lacks.Object id) = Refused (BadObject id)
+denied_file (lacks.Limit what number) = Limit what number
+denied_file (lacks.Way path) = Refused (WouldOverwrite path)
+denied_file (lacks.Place id) = Refused (BadObject id)
+
+-- what files of `.git` that are written lack
+abbrev pub denied_git : Lack → Denial
+denied_git (lacks.Object id) = Refused (BadObject id)
+denied_git (lacks.Limit what number) = Limit what number
+denied_git (lacks.Way path) = Refused NotBuilt
+denied_git (lacks.Place id) = Refused NotBuilt

@@ -4,7 +4,8 @@ use Rattle.std.specs.Prelude.{ℕ, not, ◌==◌, List, [], ◌∷◌, length, c
 use Rattle.std.specs.FinMap as map
 use Rattle.seq_base.specs.World.{World}
 use Rattle.seq_outside.specs.Store.{files_below}
-use Rattle.seq_model.specs.Refusing.{◌>>=◌, refuse_if}
+use Rattle.seq_outside.specs.Halts.{◌>>=◌}
+use Rattle.seq_model.specs.Refusing.{refuse_if}
 use Rattle.seq_model.specs.declared.denial.Denial.{Denial}
 use Rattle.seq_model.specs.declared.refusal.Refusal.TheVariants.{NotBuilt}
 

@@ -1,7 +1,7 @@
 //! Why an invocation is denied what it asks for.
 
-use crate::limit::LimitWhat;
 use crate::refusal::Refusal;
+use seq_outside::LimitWhat;
 
 /// Why an invocation is denied what it asks for. The repository is then as it was.
 #[derive(Drop)]

@@ -4,7 +4,6 @@
 
 mod committer;
 mod denial;
-mod limit;
 mod outcome;
 mod reason;
 mod refusal;
@@ -13,10 +12,10 @@ mod usage;
 
 pub use committer::Committer;
 pub use denial::Denial;
-pub use limit::LimitWhat;
 pub use outcome::{Outcome, Paths};
 pub use reason::Reason;
 pub use refusal::Refusal;
+pub use seq_outside::LimitWhat;
 pub use stop::StopKind;
 pub use todo_text::TodoKind;
 pub use usage::UsageFault;

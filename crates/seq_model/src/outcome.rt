@@ -3,11 +3,11 @@
 ghost use Rattle.std.specs.Prelude.{◌≡◌};
 ghost use Rattle.seq_model.specs.Status.{status_of};
 
-use crate::limit::LimitWhat;
 use crate::refusal::Refusal;
 use crate::stop::StopKind;
 use crate::usage::UsageFault;
 use seq_base::{Id, Path};
+use seq_outside::LimitWhat;
 use std::marker::Model;
 
 /// Paths in an outcome. Contracts see their list.
@@ -82,29 +82,5 @@ impl Outcome {
             Outcome::Limit { .. } => 8,
             Outcome::Memory => 9,
         }
-    }
-}
-
-#[cfg(test)]
-mod tests {
-    use super::*;
-
-    #[test]
-    fn keeps_the_paths(rt: HostRuntime) -> Result<(), std::test::Fail> {
-        let path = Path::new(rt.alloc(), b"src/a.txt")?;
-        let paths = Paths::from_vec(vec![in rt.alloc(); path]?);
-        assert_eq!(rt; paths.as_slice().len(), 1);
-        let kept = paths.into_vec();
-        assert_eq!(rt; kept.len(), 1);
-        assert_eq!(rt; kept[0].bytes(), b"src/a.txt".as_slice());
-        Ok(())
-    }
-
-    #[test]
-    fn ends_with_the_status_of_its_row(rt: HostRuntime) {
-        assert_eq!(rt; Outcome::Done { head: None }.status(), 0);
-        assert_eq!(rt; Outcome::Usage(UsageFault::NoVerb).status(), 2);
-        assert_eq!(rt; Outcome::ChildFault.status(), 6);
-        assert_eq!(rt; Outcome::Memory.status(), 9);
     }
 }

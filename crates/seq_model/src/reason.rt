@@ -1,7 +1,7 @@
 //! Why a line is blocked.
 
-use crate::limit::LimitWhat;
 use seq_base::{Bytes, Id};
+use seq_outside::LimitWhat;
 
 /// Why a line of the todo is blocked.
 #[derive(Drop)]

@@ -1,77 +1,37 @@
--- What a write in a draft does to the world as it will be.
-use Rattle.std.proofs.Common.{◌≡◌, ℕ, zero, suc, ◌<◌, Bool, true, false, ◌||◌, cond, List, [], ◌∷◌, ◌++◌, length, set, get_or, refl, sym, ap, subst, ◌∙◌, arith}
-use Rattle.std.proofs.lemmas.Bool.{or_parts}
-use Rattle.std.proofs.lemmas.List.{get_or_default}
+-- What a change in a draft does to the world as it will be.
+use Rattle.std.proofs.Common.{◌≡◌, ℕ, Bool, true, false, not, ◌&&◌, cond, List, [], ◌∷◌, ◌++◌, None, refl, sym, ap, ◌∙◌}
+use Rattle.std.proofs.lemmas.Bool.{and_from, and_parts, not-true, not_from_false, or_from, or_parts}
 use Rattle.std.specs.Cmp.Lexicographic.{nat_list_cmp_total}
 use Rattle.std.specs.Cmp.{eq_by_cmp_equiv}
 use Rattle.std.specs.FinMap as map
 use Rattle.std.specs.FinMap.{get-insert, get-remove, same_map, slice_cmp-IsAntisymmetric, nat_cmp-IsAntisymmetric}
 use Rattle.std.specs.List.{AllByRecursion}
 use Rattle.std.specs.Ordering.{eq_by_cmp}
+use Rattle.seq_base.specs.StorePaths.{is_store_path}
 use Rattle.seq_base.specs.World.{World, path_cmp}
-use Rattle.seq_base.proofs.Shape.{same_path, equal_to_itself}
+use Rattle.seq_base.proofs.Shape.{same_path}
 use Rattle.seq_outside.specs.declared.write.Write.{Write}
 use Rattle.seq_outside.specs.declared.write.Write.TheVariants.{Put, Remove}
-use Rattle.seq_outside.specs.Drafts.{AreApart, IsBetween, IsDraft, IsPlace, is_at, left_by, with_write, write_at}
-use Rattle.seq_outside.specs.Writes.{AgreesWith, HasStorePath, IsToward, after, is_written, path_of, written}
-
--- ---- the place of a path
-
-place_tail : (x : Write) (xs : List Write) (path : List ℕ) (i : ℕ) → IsPlace (x ∷ xs) path (suc i) → IsPlace xs path i
-place_tail x xs path i place = record { in_range = omega (arith, place.in_range); before = λ j lt. place.before (suc j) (omega (arith, lt)); here = place.here }
-
-pub write_placed : (xs : List Write) (x : Write) (i : ℕ) → IsPlace xs (path_of x) i → set xs i x ≡ with_write xs x
-write_placed [] x i place = absurd (omega (arith, place.in_range))
-write_placed (y ∷ ys) x zero place = rw place.here refl
-write_placed (y ∷ ys) x (suc i) place = rw (place.before 0 (omega arith)) (ap (λ (zs : List Write). y ∷ zs) (write_placed ys x i (place_tail y ys (path_of x) i place)))
-
-pub write_pushed : (xs : List Write) (x : Write) → is_written xs (path_of x) ≡ false → xs ++ x ∷ [] ≡ with_write xs x
-write_pushed [] x none = refl
-write_pushed (y ∷ ys) x none =
-    let both = or_parts (is_at (path_of x) y) (is_written ys (path_of x)) none in
-    rw both.0 (ap (λ (zs : List Write). y ∷ zs) (write_pushed ys x both.1))
-
-pub none_written : (xs : List Write) (path : List ℕ) → ((j : ℕ) → j < length xs → is_at path (write_at xs j) ≡ false) → is_written xs path ≡ false
-none_written [] path none = refl
-none_written (x ∷ xs) path none = rw (none 0 (omega arith)) (none_written xs path (λ j lt. none (suc j) (omega (arith, lt))))
+use Rattle.seq_outside.specs.Drafts.{AreApart, is_draft, with_last, without}
+use Rattle.seq_outside.specs.Writes.{HasStorePath, after, is_at, is_written, left_by, path_of, written}
 
 -- ---- one write
 
-apart_back : (x y : Write) → is_at (path_of x) y ≡ false → is_at (path_of y) x ≡ false
+pub apart_back : (x y : Write) → is_at (path_of x) y ≡ false → is_at (path_of y) x ≡ false
 apart_back x y e = let laws = eq_by_cmp_equiv nat_list_cmp_total in laws.symm (path_of y) (path_of x) ∙ e
 
 pub get_after : (w : World) (x : Write) (q : List ℕ) → map.get (after w x) q ≡ cond (is_at q x) (left_by x) (map.get w q)
 get_after w (Put path bytes) q = get-insert nat_list_cmp_total w path bytes q
 get_after w (Remove path) q = get-remove nat_list_cmp_total w path q
 
-same_world : (v w : World) → ((q : List ℕ) → map.get v q ≡ map.get w q) → v ≡ w
+pub same_world : (v w : World) → ((q : List ℕ) → map.get v q ≡ map.get w q) → v ≡ w
 same_world v w same = same_map nat_list_cmp_total (slice_cmp-IsAntisymmetric nat_cmp-IsAntisymmetric) v w same
 
--- the later of two writes of a file
-covers : (w : World) (x y : Write) → is_at (path_of x) y ≡ true → after (after w y) x ≡ after w x
-covers w x y same =
-    same_world (after (after w y) x) (after w x) (λ q.
-    get_after (after w y) x q ∙ at q (is_at q x) refl ∙ sym (get_after w x q))
-  where
-    at : (q : List ℕ) (b : Bool) → is_at q x ≡ b → cond b (left_by x) (map.get (after w y) q) ≡ cond b (left_by x) (map.get w q)
-    at q true e = refl
-    at q false e = get_after w y q ∙ ap (λ (b : Bool). cond b (left_by y) (map.get w q)) (ap (λ (p : List ℕ). eq_by_cmp path_cmp q p) (sym (same_path (path_of x) (path_of y) same)) ∙ e)
+-- ---- writes, one after another
 
--- writes of two files, in either order
-swapped : (w : World) (x y : Write) → is_at (path_of x) y ≡ false → after (after w x) y ≡ after (after w y) x
-swapped w x y apart =
-    same_world (after (after w x) y) (after (after w y) x) (λ q.
-    get_after (after w x) y q ∙ ap (cond (is_at q y) (left_by y)) (get_after w x q)
-    ∙ at q (is_at q x) refl (is_at q y) refl
-    ∙ sym (get_after (after w y) x q ∙ ap (cond (is_at q x) (left_by x)) (get_after w y q)))
-  where
-    at : (q : List ℕ) (b : Bool) → is_at q x ≡ b → (c : Bool) → is_at q y ≡ c → cond c (left_by y) (cond b (left_by x) (map.get w q)) ≡ cond b (left_by x) (cond c (left_by y) (map.get w q))
-    at q true e true f = absurd (let g : is_at (path_of x) y ≡ true = subst (λ (p : List ℕ). eq_by_cmp path_cmp p (path_of y) ≡ true) (same_path q (path_of x) e) f in cc)
-    at q true e false f = refl
-    at q false e true f = refl
-    at q false e false f = refl
-
--- ---- writes in a draft
+pub written-append : (w : World) (xs ys : List Write) → written w (xs ++ ys) ≡ written (written w xs) ys
+written-append w [] ys = refl
+written-append w (x ∷ xs) ys = written-append (after w x) xs ys
 
 pub written_elsewhere : (w : World) (xs : List Write) (q : List ℕ) → is_written xs q ≡ false → map.get (written w xs) q ≡ map.get w q
 written_elsewhere w [] q none = refl
@@ -84,102 +44,120 @@ pub first_stays : (w : World) (x : Write) (xs : List Write) (q : List ℕ) → i
 first_stays w x xs q here none =
     written_elsewhere (after w x) xs q (ap (is_written xs) (same_path q (path_of x) here) ∙ none) ∙ get_after w x q ∙ ap (λ (b : Bool). cond b (left_by x) (map.get w q)) here
 
-pub written_at : (w : World) (xs : List Write) (q : List ℕ) (i : ℕ) → AreApart xs → IsPlace xs q i → map.get (written w xs) q ≡ left_by (write_at xs i)
-written_at w [] q i apart place = absurd (omega (arith, place.in_range))
-written_at w (x ∷ xs) q zero apart place = first_stays w x xs q place.here apart.0
-written_at w (x ∷ xs) q (suc i) apart place = written_at (after w x) xs q i apart.1 (place_tail x xs q i place)
+-- worlds that agree at a path do so after the same writes
+written_same : (v w : World) (xs : List Write) (q : List ℕ) → map.get v q ≡ map.get w q → map.get (written v xs) q ≡ map.get (written w xs) q
+written_same v w [] q same = same
+written_same v w (x ∷ xs) q same = written_same (after v x) (after w x) xs q (get_after v x q ∙ ap (cond (is_at q x) (left_by x)) same ∙ sym (get_after w x q))
 
--- what a draft's write of the path leaves
-pub found_at : (w : World) (xs : List Write) (q : List ℕ) (i : ℕ) (x : Write) → AreApart xs → IsPlace xs q i → x ≡ get_or xs i x → left_by x ≡ map.get (written w xs) q
-found_at w xs q i x apart place is = ap left_by (is ∙ get_or_default xs i x (Remove []) place.in_range) ∙ sym (written_at w xs q i apart place)
+-- a path that the write does not name, which names another
+pub other_path : (path q : List ℕ) (x : Write) → is_at path x ≡ true → eq_by_cmp path_cmp q path ≡ false → is_at q x ≡ false
+other_path path q x here other = ap (eq_by_cmp path_cmp q) (sym (same_path path (path_of x) here)) ∙ other
 
--- a write that is made before others of other files, or behind them
-moved : (w : World) (x : Write) (xs : List Write) → is_written xs (path_of x) ≡ false → written (after w x) xs ≡ after (written w xs) x
-moved w x [] none = refl
-moved w x (y ∷ ys) none =
+-- the writes but those of the path do the same elsewhere
+pub without_elsewhere : (w : World) (path : List ℕ) (xs : List Write) (q : List ℕ) → eq_by_cmp path_cmp q path ≡ false → map.get (written w (without path xs)) q ≡ map.get (written w xs) q
+without_elsewhere w path [] q other = refl
+without_elsewhere w path (x ∷ xs) q other = at (λ v. without_elsewhere v path xs q other) (is_at path x) refl
+  where
+    at : ((v : World) → map.get (written v (without path xs)) q ≡ map.get (written v xs) q) → (b : Bool) → is_at path x ≡ b → map.get (written w (cond b (without path xs) (x ∷ without path xs))) q ≡ map.get (written (after w x) xs) q
+    at later true here = later w ∙ written_same w (after w x) xs q (sym (get_after w x q ∙ ap (λ (b : Bool). cond b (left_by x) (map.get w q)) (other_path path q x here other)))
+    at later false _ = later (after w x)
+
+-- ---- a change in a draft
+
+pub written_last : (w : World) (xs : List Write) (x : Write) → written w (with_last xs x) ≡ after (written w xs) x
+written_last w xs x =
+    written-append w (without (path_of x) xs) (x ∷ [])
+    ∙ same_world (after (written w (without (path_of x) xs)) x) (after (written w xs) x) (λ q.
+    get_after (written w (without (path_of x) xs)) x q ∙ at q (is_at q x) refl ∙ sym (get_after (written w xs) x q))
+  where
+    at : (q : List ℕ) (b : Bool) → is_at q x ≡ b → cond b (left_by x) (map.get (written w (without (path_of x) xs)) q) ≡ cond b (left_by x) (map.get (written w xs) q)
+    at q true e = refl
+    at q false e = without_elsewhere w (path_of x) xs q e
+
+unwritten_without : (path : List ℕ) (xs : List Write) (q : List ℕ) → is_written xs q ≡ false → is_written (without path xs) q ≡ false
+unwritten_without path [] q none = refl
+unwritten_without path (x ∷ xs) q none = let both = or_parts (is_at q x) (is_written xs q) none in at both.0 (unwritten_without path xs q both.1) (is_at path x)
+  where
+    at : is_at q x ≡ false → is_written (without path xs) q ≡ false → (b : Bool) → is_written (cond b (without path xs) (x ∷ without path xs)) q ≡ false
+    at here later true = later
+    at here later false = or_from (is_at q x) (is_written (without path xs) q) here later
+
+pub path_without : (path : List ℕ) (xs : List Write) → is_written (without path xs) path ≡ false
+path_without path [] = refl
+path_without path (x ∷ xs) = at (path_without path xs) (is_at path x) refl
+  where
+    at : is_written (without path xs) path ≡ false → (b : Bool) → is_at path x ≡ b → is_written (cond b (without path xs) (x ∷ without path xs)) path ≡ false
+    at later true _ = later
+    at later false e = or_from (is_at path x) (is_written (without path xs) path) e later
+
+pub without_none : (path : List ℕ) (xs : List Write) → is_written xs path ≡ false → without path xs ≡ xs
+without_none path [] none = refl
+without_none path (x ∷ xs) none = let both = or_parts (is_at path x) (is_written xs path) none in rw both.0 (ap (λ (ys : List Write). x ∷ ys) (without_none path xs both.1))
+
+pub apart_without : (path : List ℕ) (xs : List Write) → AreApart xs → AreApart (without path xs)
+apart_without path [] apart = tt
+apart_without path (x ∷ xs) apart = at (apart_without path xs apart.1) (is_at path x)
+  where
+    at : AreApart (without path xs) → (b : Bool) → AreApart (cond b (without path xs) (x ∷ without path xs))
+    at later true = later
+    at later false = (unwritten_without path xs (path_of x) apart.0, later)
+
+unwritten_behind : (xs : List Write) (x : Write) (q : List ℕ) → is_written xs q ≡ false → is_at q x ≡ false → is_written (xs ++ x ∷ []) q ≡ false
+unwritten_behind [] x q none other = or_from (is_at q x) false other refl
+unwritten_behind (y ∷ ys) x q none other = let both = or_parts (is_at q y) (is_written ys q) none in or_from (is_at q y) (is_written (ys ++ x ∷ []) q) both.0 (unwritten_behind ys x q both.1 other)
+
+apart_behind : (xs : List Write) (x : Write) → AreApart xs → is_written xs (path_of x) ≡ false → AreApart (xs ++ x ∷ [])
+apart_behind [] x apart none = (refl, tt)
+apart_behind (y ∷ ys) x apart none =
     let both = or_parts (is_at (path_of x) y) (is_written ys (path_of x)) none in
-    ap (λ (v : World). written v ys) (swapped w x y both.0) ∙ moved (after w y) x ys both.1
+    (unwritten_behind ys x (path_of y) apart.0 (apart_back x y both.0), apart_behind ys x apart.1 both.1)
 
-pub written_with : (w : World) (xs : List Write) (x : Write) → AreApart xs → written w (with_write xs x) ≡ after (written w xs) x
-written_with w [] x apart = refl
-written_with w (y ∷ ys) x apart = at (written_with (after w y) ys x apart.1) (is_at (path_of x) y) refl
-  where
-    at : written (after w y) (with_write ys x) ≡ after (written (after w y) ys) x → (b : Bool) → is_at (path_of x) y ≡ b → written w (cond b (x ∷ ys) (y ∷ with_write ys x)) ≡ after (written (after w y) ys) x
-    at later true e =
-        ap (λ (v : World). written v ys) (sym (covers w x y e)) ∙ moved (after w y) x ys (ap (is_written ys) (same_path (path_of x) (path_of y) e) ∙ apart.0)
-    at later false e = later
-
--- ---- what is written
-
-covered : (a b : Bool) → (a || b) ≡ (a || b || a)
-covered true b = refl
-covered false true = refl
-covered false false = refl
-
-pub behind : (a b c : Bool) → (a || (b || c)) ≡ (a || b || c)
-behind true b c = refl
-behind false b c = refl
-
-pub is_written_with : (xs : List Write) (x : Write) (q : List ℕ) → is_written (with_write xs x) q ≡ (is_written xs q || is_at q x)
-is_written_with [] x q = or_false (is_at q x)
-  where
-    or_false : (a : Bool) → (a || false) ≡ a
-    or_false true = refl
-    or_false false = refl
-is_written_with (y ∷ ys) x q = at (is_written_with ys x q) (is_at (path_of x) y) refl
-  where
-    at : is_written (with_write ys x) q ≡ (is_written ys q || is_at q x) → (b : Bool) → is_at (path_of x) y ≡ b → is_written (cond b (x ∷ ys) (y ∷ with_write ys x)) q ≡ (is_at q y || is_written ys q || is_at q x)
-    at later true e =
-        let same : is_at q y ≡ is_at q x = ap (λ (p : List ℕ). eq_by_cmp path_cmp q p) (sym (same_path (path_of x) (path_of y) e)) in
-        covered (is_at q x) (is_written ys q) ∙ ap (λ (b : Bool). b || is_written ys q || is_at q x) (sym same)
-    at later false e = ap (λ (b : Bool). is_at q y || b) later ∙ behind (is_at q y) (is_written ys q) (is_at q x)
-
--- ---- a draft stays one
-
-apart_with : (xs : List Write) (x : Write) → AreApart xs → AreApart (with_write xs x)
-apart_with [] x apart = (refl, tt)
-apart_with (y ∷ ys) x apart = at (apart_with ys x apart.1) (is_at (path_of x) y) refl
-  where
-    at : AreApart (with_write ys x) → (b : Bool) → is_at (path_of x) y ≡ b → AreApart (cond b (x ∷ ys) (y ∷ with_write ys x))
-    at later true e = (ap (is_written ys) (same_path (path_of x) (path_of y) e) ∙ apart.0, apart.1)
-    at later false e = (is_written_with ys x (path_of y) ∙ rw (apart.0, apart_back x y e) refl, later)
+pub apart_last : (xs : List Write) (x : Write) → AreApart xs → AreApart (with_last xs x)
+apart_last xs x apart = apart_behind (without (path_of x) xs) x (apart_without (path_of x) xs apart) (path_without (path_of x) xs)
 
 module _ (P : Write → Type 0) where
-  pub all_with : (xs : List Write) (x : Write) → AllByRecursion P xs → P x → AllByRecursion P (with_write xs x)
-  all_with [] x all one = (one, tt)
-  all_with (y ∷ ys) x all one = at (all_with ys x all.1 one) (is_at (path_of x) y)
+  all_without : (path : List ℕ) (xs : List Write) → AllByRecursion P xs → AllByRecursion P (without path xs)
+  all_without path [] all = tt
+  all_without path (x ∷ xs) all = at (all_without path xs all.1) (is_at path x)
     where
-      at : AllByRecursion P (with_write ys x) → (b : Bool) → AllByRecursion P (cond b (x ∷ ys) (y ∷ with_write ys x))
-      at later true = (one, all.1)
+      at : AllByRecursion P (without path xs) → (b : Bool) → AllByRecursion P (cond b (without path xs) (x ∷ without path xs))
+      at later true = later
       at later false = (all.0, later)
 
-pub draft_with : (xs : List Write) (x : Write) → IsDraft xs → HasStorePath x → IsDraft (with_write xs x)
-draft_with xs x draft path = record { apart = apart_with xs x draft.apart; paths = all_with HasStorePath xs x draft.paths path }
+  all_behind : (xs : List Write) (x : Write) → AllByRecursion P xs → P x → AllByRecursion P (xs ++ x ∷ [])
+  all_behind [] x all one = (one, tt)
+  all_behind (y ∷ ys) x all one = (all.0, all_behind ys x all.1 one)
 
--- ---- what `Draft` needs of it, with the writes of the draft as it was
+  pub all_last : (xs : List Write) (x : Write) → AllByRecursion P xs → P x → AllByRecursion P (with_last xs x)
+  all_last xs x all one = all_behind (without (path_of x) xs) x (all_without (path_of x) xs all) one
 
-module _ (xs ys : List Write) (x : Write) (is : ys ≡ with_write xs x) where
-  pub set_draft : IsDraft xs → HasStorePath x → IsDraft ys
-  set_draft draft path = rw is (draft_with xs x draft path)
+-- ---- the test
 
-  pub set_done : IsDraft xs → (w : World) → written w ys ≡ after (written w xs) x
-  set_done draft w = rw is (written_with w xs x draft.apart)
+pub draft_from : (xs : List Write) → AreApart xs → AllByRecursion HasStorePath xs → is_draft xs ≡ true
+draft_from [] apart paths = refl
+draft_from (x ∷ xs) apart paths =
+    and_from (not (is_written xs (path_of x)) && is_store_path (path_of x)) (is_draft xs)
+    (and_from (not (is_written xs (path_of x))) (is_store_path (path_of x)) (not_from_false (is_written xs (path_of x)) apart.0) paths.0) (draft_from xs apart.1 paths.1)
 
-  pub set_all : (P : Write → Type 0) → AllByRecursion P xs → P x → AllByRecursion P ys
-  set_all P all one = rw is (all_with P xs x all one)
+pub draft_apart : (xs : List Write) → is_draft xs ≡ true → AreApart xs
+draft_apart [] h = tt
+draft_apart (x ∷ xs) h =
+    let outer = and_parts (not (is_written xs (path_of x)) && is_store_path (path_of x)) (is_draft xs) h in
+    let inner = and_parts (not (is_written xs (path_of x))) (is_store_path (path_of x)) outer.0 in
+    (not-true (is_written xs (path_of x)) inner.0, draft_apart xs outer.1)
 
-  pub set_named : (q : List ℕ) → is_written ys q ≡ (is_written xs q || is_at q x)
-  set_named q = rw is (is_written_with xs x q)
+-- ---- what `Changes` needs of it, with the writes as they were
 
--- ---- the world on the way
+module _ (xs ys : List Write) (x : Write) (is : ys ≡ with_last xs x) where
+  pub set_done : (w : World) → written w ys ≡ after (written w xs) x
+  set_done w = rw is (written_last w xs x)
 
-left_agrees : (w : World) (x : Write) → map.get w (path_of x) ≡ left_by x → AgreesWith w x
-left_agrees w (Put path bytes) e = e
-left_agrees w (Remove path) e = e
+  pub set_draft : AreApart xs → AllByRecursion HasStorePath xs → HasStorePath x → is_draft ys ≡ true
+  set_draft apart paths path = rw is (draft_from (with_last xs x) (apart_last xs x apart) (all_last HasStorePath xs x paths path))
 
-agrees : (w : World) (xs : List Write) → AreApart xs → AllByRecursion (AgreesWith (written w xs)) xs
-agrees w [] apart = tt
-agrees w (x ∷ xs) apart = (left_agrees (written (after w x) xs) x (first_stays w x xs (path_of x) (equal_to_itself (path_of x)) apart.0), agrees (after w x) xs apart.1)
-
-pub between : (old new : World) (xs : List Write) → AreApart xs → IsToward old xs new → IsBetween old xs new
-between old new xs apart toward = toward (written old xs) (agrees old xs apart)
+pub removed_absent : (w : World) (path : List ℕ) → None ≡ map.get w path → w ≡ map.remove w path
+removed_absent w path absent = same_world w (map.remove w path) (λ q. at q (eq_by_cmp path_cmp q path) refl ∙ sym (get-remove nat_list_cmp_total w path q))
+  where
+    at : (q : List ℕ) (b : Bool) → eq_by_cmp path_cmp q path ≡ b → map.get w q ≡ cond (eq_by_cmp path_cmp q path) None (map.get w q)
+    at q true same = rw same (ap (map.get w) (same_path q path same) ∙ sym absent)
+    at q false other = rw other refl

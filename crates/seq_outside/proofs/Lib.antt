@@ -1,9 +1,10 @@
 pub mod Firsts
 pub mod Written
-pub mod FreeWrites
 pub mod Drafts
-pub mod FreeDrafts
-pub mod Keeping
-pub mod Adding
+pub mod Free
+pub mod ObjectsFirst
+pub mod Slots
 pub mod Keys
 pub mod Blocking
+pub mod ListedPaths
+pub mod Folders

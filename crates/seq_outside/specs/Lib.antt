@@ -1,8 +1,16 @@
 pub mod Causes
+pub mod Seen
 pub mod Store
 pub mod Child
 pub mod Sink
 pub mod Env
 pub mod Writes
 pub mod Drafts
-pub mod Keeping
+pub mod Slots
+pub mod Laws
+pub mod Listing
+pub mod Halts
+pub mod Turns
+pub mod Tape
+pub mod Pools
+pub mod Quiet

@@ -1,12 +1,10 @@
 -- Writes as data: a list of changes of files, and what a world is after them.
-use Rattle.std.specs.Prelude.{◌≡◌, ◌⊎◌, ℕ, Bool, true, false, not, ◌&&◌, List, [], ◌∷◌, Some, None, Result, Ok, Err}
+use Rattle.std.specs.Prelude.{◌≡◌, ◌⊎◌, ℕ, Bool, true, false, not, ◌&&◌, List, [], ◌∷◌, ◌++◌, ◌||◌, take, filter, codes, Option, Some, None, Result, Ok, Err}
 use Rattle.std.specs.FinMap as map
-use Rattle.std.specs.List.{AllByRecursion, list_any}
+use Rattle.std.specs.List.{list_any}
 use Rattle.std.specs.Ordering.{eq_by_cmp}
-use Rattle.seq_base.specs.Paths.{parts}
-use Rattle.seq_base.specs.Repository.{is_file_place, is_in_place}
 use Rattle.seq_base.specs.StorePaths.{IsStorePath}
-use Rattle.seq_base.specs.World.{World, is_blocked, path_cmp}
+use Rattle.seq_base.specs.World.{World, is_below, is_blocked, path_cmp}
 use Rattle.seq_outside.specs.declared.store.StoreError.{StoreError}
 use Rattle.seq_outside.specs.declared.store.StoreError.TheVariants.{Failed, Blocked, Memory}
 use Rattle.seq_outside.specs.declared.write.Write.{Write}
@@ -16,6 +14,15 @@ use Rattle.seq_outside.specs.declared.write.Write.TheVariants.{Put, Remove}
 abbrev pub path_of : Write → List ℕ
 path_of (Put path bytes) = path
 path_of (Remove path) = path
+
+-- what the write leaves of its file
+abbrev pub left_by : Write → Option (List ℕ)
+left_by (Put path bytes) = Some bytes
+left_by (Remove path) = None
+
+-- the write changes this file
+abbrev pub is_at : List ℕ → Write → Bool
+is_at path write = eq_by_cmp path_cmp path (path_of write)
 
 -- the world after a write
 abbrev pub after : World → Write → World
@@ -29,17 +36,7 @@ written w (write ∷ writes) = written (after w write) writes
 
 -- a path that a write names
 abbrev pub is_written : List Write → List ℕ → Bool
-is_written writes path = list_any (λ write. eq_by_cmp path_cmp path (path_of write)) writes
-
--- a world has what the write leaves at its path
-abbrev pub AgreesWith : World → Write → Type 0
-AgreesWith w (Put path bytes) = map.get w path ≡ Some bytes
-AgreesWith w (Remove path) = map.get w path ≡ None
-
--- each path has what it had, or what it has in any world that agrees with all writes
-abbrev pub IsToward : World → List Write → World → Type 0
-IsToward old writes new =
-    (aim : World) → AllByRecursion (AgreesWith aim) writes → (path : List ℕ) → (map.get new path ≡ map.get old path) ⊎ (map.get new path ≡ map.get aim path)
+is_written writes path = list_any (is_at path) writes
 
 -- no write is blocked where the world has what it is then
 abbrev pub is_free : World → Write → Bool
@@ -53,17 +50,58 @@ are_free w (write ∷ writes) = is_free w write && are_free (after w write) writ
 abbrev pub HasStorePath : Write → Type 0
 HasStorePath write = IsStorePath (path_of write)
 
--- the file is one that a repository keeps
-abbrev pub IsKept : Write → Type 0
-IsKept write = is_file_place (parts (path_of write)) ≡ true
-
--- the file may stand in a repository
-abbrev pub IsInPlace : Write → Type 0
-IsInPlace write = is_in_place (path_of write) ≡ true
-
 -- What one write leaves. One that failed leaves the file as it was or as it was to be.
 abbrev pub WriteLeaves : {T : Type 0} → Result T StoreError → World → Write → World → Type 0
 WriteLeaves (Ok x) old write new = (is_free old write ≡ true) × (new ≡ after old write)
 WriteLeaves (Err Failed) old write new = (new ≡ old) ⊎ ((is_free old write ≡ true) × (new ≡ after old write))
 WriteLeaves (Err Blocked) old write new = (is_free old write ≡ false) × (new ≡ old)
 WriteLeaves (Err Memory) old write new = new ≡ old
+
+-- ---- the order in which changes are made
+
+-- a file below the folder of objects
+abbrev pub is_object_file : List ℕ → Bool
+is_object_file path = is_below (codes ".git/objects") path
+
+-- such a file, or one in the place of that folder
+abbrev pub is_about_objects : List ℕ → Bool
+is_about_objects path = is_object_file path || is_below path (codes ".git/objects/")
+
+-- the write is of an object's file, or makes room for such files
+abbrev pub is_of_objects : Write → Bool
+is_of_objects (Put path bytes) = is_object_file path
+is_of_objects (Remove path) = is_about_objects path
+
+abbrev pub is_of_others : Write → Bool
+is_of_others write = not (is_of_objects write)
+
+-- the writes of objects before all others
+abbrev pub objects_first : List Write → List Write
+objects_first writes = filter is_of_objects writes ++ filter is_of_others writes
+
+-- a front of the writes was made
+pub record IsFront (old : World) (writes : List Write) (now : World) : Type 0 where
+  pub made : ℕ
+  pub is : now ≡ written old (take made writes)
+
+-- each file is as it was, or as it is to be
+abbrev pub IsBetween : World → World → World → Type 0
+IsBetween old aim now = (path : List ℕ) → (map.get now path ≡ map.get old path) ⊎ (map.get now path ≡ map.get aim path)
+
+-- no file but objects is another one yet, or each object is as it is to be: so nothing names an object that is missing
+abbrev pub AreObjectsFirst : World → World → World → Type 0
+AreObjectsFirst old aim now =
+    ((path : List ℕ) → is_about_objects path ≡ false → map.get now path ≡ map.get old path)
+    ⊎ ((path : List ℕ) → is_object_file path ≡ true → map.get now path ≡ map.get aim path)
+
+-- some writes lead from the one world to the other, each file's one, and a front of them was made, objects before all else
+pub record IsOnTheWay (old aim now : World) : Type 0 where
+  pub writes : List Write
+  pub leads : written old writes ≡ aim
+  pub front : IsFront old writes now
+  pub between : IsBetween old aim now
+  pub objects : AreObjectsFirst old aim now
+
+-- nothing is changed, or some of the changes were made
+abbrev pub IsToward : World → World → World → Type 0
+IsToward old aim now = (now ≡ old) ⊎ IsOnTheWay old aim now

@@ -1,7 +1,8 @@
 //! Children: programs that are run.
 
-ghost use Rattle.std.specs.Prelude.{◌≡◌, ◌≤◌, IsErrOf, ℕ};
-ghost use Rattle.seq_outside.specs.Child.{HasChildCause, Noted, noted};
+ghost use Rattle.std.specs.Prelude.{◌≡◌, ℕ};
+ghost use Rattle.seq_outside.specs.Child.{HasChildCause, Noted, Runs};
+ghost use Rattle.seq_outside.specs.Seen.{Goes};
 
 use crate::Store;
 use seq_base::Bytes;
@@ -70,21 +71,17 @@ pub struct Job {
 /// Runs children over a store. What it tells is a relation per call: a concrete one gives it the meaning of its answers
 /// still to come and of its log.
 pub trait Spawner<S: Store> {
-    /// From the one spawner to the other this was noted: a job was handed in over a content, ended so, and left that.
+    /// From the one spawner to the other this was noted: a job was handed in over a content, ended so, and left that, and the
+    /// store's count of faults rose in the call or did not.
     ghost ran: { Self → Noted → Self → Type 0 };
-
-    /// In none of its calls so far did a count of its store's faults rise.
-    ghost calm: { Self → Type 0 };
 
     /// How often it has failed.
     ghost faults: { Self → ℕ };
 
-    /// Starts a child at the root, waits for it and answers its exit. What the store then holds, also where the call failed,
-    /// is what the child left.
+    /// Starts a child at the root, waits for it and answers its exit. What the store then holds, also where the call failed or
+    /// memory ran out, is what the child left.
     fn run(&mut self, alloc: Global, store: &mut S, job: &Job) -> Result<Exit, ChildError>
-        ensures ran { (IsErrOf result ChildError.Memory → ⊥) → ran self.old (noted job.now (S.content store.old) result (S.content store.new)) self.new }
+        ensures runs { Runs S.told ran job.now self.old (S.seen store.old) result self.new (S.seen store.new) }
         ensures cause { HasChildCause result (faults self.old) (faults self.new) }
-        ensures calm { calm self.new → calm self.old × (S.faults store.new ≡ S.faults store.old) }
-        ensures store_faults { S.faults store.old ≤ S.faults store.new }
-        ensures store_blocked { S.blocked store.old ≤ S.blocked store.new };
+        ensures store { Goes S.told (S.seen store.old) (S.seen store.new) };
 }

@@ -2,19 +2,28 @@
 //! what it prints.
 #![tactic(auto)]
 
+mod changes;
 mod child;
 mod clock;
-mod draft;
+mod draft_store;
+mod drafted;
 mod env;
-mod free;
+mod halt;
+mod lack;
+mod limit;
+mod listing;
 mod sink;
 mod store;
 mod write;
 
+pub use changes::Changes;
 pub use child::{ChildError, Exit, Job, Spawner, Words};
 pub use clock::Clock;
-pub use draft::Draft;
+pub use draft_store::DraftStore;
 pub use env::{Env, Variables, is_zone};
+pub use halt::Halt;
+pub use lack::Lack;
+pub use limit::LimitWhat;
 pub use sink::{Sink, SinkError};
 pub use store::{Store, StoreError};
-pub use write::{Write, write_all};
+pub use write::Write;

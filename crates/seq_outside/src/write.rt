@@ -1,15 +1,14 @@
 //! Writes as data, and their making in a store.
 
-ghost use Rattle.std.specs.FinMap as map;
 ghost use Rattle.std.specs.List.{AllByRecursion};
-ghost use Rattle.std.specs.Prelude.{◌≡◌, false, true, IfOk, IsErrOf, List, OnOk, option_map, ℕ};
-ghost use Rattle.seq_base.specs.Repository.{IsRepository};
-ghost use Rattle.seq_outside.specs.Drafts.{left_by};
-ghost use Rattle.seq_outside.specs.Store.{HasStoreCause};
-ghost use Rattle.seq_outside.specs.Writes.{HasStorePath, IsInPlace, IsToward, WriteLeaves, are_free, is_written, path_of, written};
+ghost use Rattle.std.specs.Prelude.{◌≡◌, true, IfOk, IsErrOf, OnOk, option_map};
+ghost use Rattle.seq_outside.specs.Drafts.{AreApart};
+ghost use Rattle.seq_outside.specs.Seen.{Writes, store_cause};
+ghost use Rattle.seq_outside.specs.Slots.{SlotHasPath, SlotLeaves, all_chosen, chosen as chosen_in, kept};
+ghost use Rattle.seq_outside.specs.Writes.{HasStorePath, IsFront, IsOnTheWay, WriteLeaves, are_free, is_of_objects as is_of_objects_in, left_by, path_of, written};
 
 use crate::store::{Store, StoreError};
-use seq_base::Bytes;
+use seq_base::{Bytes, lies_below};
 use std::alloc::{AllocError, Global};
 
 /// A change of one file.
@@ -42,10 +41,23 @@ impl Write {
     }
 }
 
+/// Whether the write is of an object's file, or makes room for such files.
+fn is_of_objects(write: &Write) -> bool
+    ensures { result ≡ is_of_objects_in write.now }
+{
+    match write {
+        Write::Put { path, .. } => lies_below(b".git/objects", path.as_slice()),
+        Write::Remove { path } => {
+            lies_below(b".git/objects", path.as_slice())
+                || lies_below(path.as_slice(), b".git/objects/")
+        }
+    }
+}
+
 fn make<S: Store>(alloc: Global, store: &mut S, write: &Write) -> Result<(), StoreError>
     requires { HasStorePath write.now }
-    ensures leaves { S.told → WriteLeaves result (S.content store.old) write.now (S.content store.new) }
-    ensures cause { HasStoreCause result (S.faults store.old) (S.faults store.new) (S.blocked store.old) (S.blocked store.new) }
+    ensures leaves { S.told → WriteLeaves result (S.seen store.old).content write.now (S.seen store.new).content }
+    ensures writes { Writes S.told store_cause result (S.seen store.old) (S.seen store.new) }
 {
     match write {
         Write::Put { path, bytes } => store.put(alloc, path.as_slice(), bytes.as_slice()),
@@ -56,21 +68,67 @@ fn make<S: Store>(alloc: Global, store: &mut S, write: &Write) -> Result<(), Sto
     }
 }
 
-/// Makes the writes in their order, up to the first that fails. Whatever ends it, each file is as it was or as the writes
-/// leave it.
-pub fn write_all<S: Store>(alloc: Global, store: &mut S, writes: &[Write]) -> Result<(), StoreError>
-    requires { AllByRecursion HasStorePath writes.now }
-    ensures done { S.told → OnOk result (S.content store.new ≡ written (S.content store.old) writes.now) }
-    ensures toward { S.told → IsToward (S.content store.old) writes.now (S.content store.new) }
-    ensures elsewhere { S.told → (path : List ℕ) → is_written writes.now path ≡ false → map.get (S.content store.new) path ≡ map.get (S.content store.old) path }
-    ensures free { S.told → are_free (S.content store.old) writes.now ≡ true → IsErrOf result StoreError.Blocked → ⊥ }
-    ensures repository { S.told → IsRepository (S.content store.old) → AllByRecursion IsInPlace writes.now → IsRepository (S.content store.new) }
-    ensures cause { HasStoreCause result (S.faults store.old) (S.faults store.new) (S.blocked store.old) (S.blocked store.new) }
+/// The write of a slot, if it is of objects, or if it is not.
+fn chosen(slot: &Option<Write>, of_objects: bool) -> Option<&Write>
+    ensures { option_map (λ write. write.now) result ≡ chosen_in of_objects slot.now }
 {
-    let mut rest = writes;
-    while let [write, after @ ..] = rest {
-        make(alloc, store, write)?;
+    match slot {
+        Some(write) if is_of_objects(write) == of_objects => Some(write),
+        _ => None,
+    }
+}
+
+/// Makes the write of a slot, if it is of objects, or if it is not.
+fn make_chosen<S: Store>(
+    alloc: Global,
+    store: &mut S,
+    slot: &Option<Write>,
+    of_objects: bool,
+) -> Result<(), StoreError>
+    requires { SlotHasPath slot.now }
+    ensures leaves { S.told → SlotLeaves result (S.seen store.old).content (chosen_in of_objects slot.now) (S.seen store.new).content }
+    ensures writes { Writes S.told store_cause result (S.seen store.old) (S.seen store.new) }
+{
+    match chosen(slot, of_objects) {
+        Some(write) => make(alloc, store, write),
+        None => Ok(()),
+    }
+}
+
+/// Makes the writes that are of objects, or those that are not, in their order, up to the first that fails.
+fn make_part<S: Store>(
+    alloc: Global,
+    store: &mut S,
+    slots: &[Option<Write>],
+    of_objects: bool,
+) -> Result<(), StoreError>
+    requires { AllByRecursion HasStorePath (kept slots.now) }
+    ensures done { S.told → OnOk result ((S.seen store.new).content ≡ written (S.seen store.old).content (all_chosen of_objects slots.now)) }
+    ensures front { S.told → IsFront (S.seen store.old).content (all_chosen of_objects slots.now) (S.seen store.new).content }
+    ensures free { S.told → are_free (S.seen store.old).content (all_chosen of_objects slots.now) ≡ true → IsErrOf result StoreError.Blocked → ⊥ }
+    ensures writes { Writes S.told store_cause result (S.seen store.old) (S.seen store.new) }
+{
+    let mut rest = slots;
+    while let [slot, after @ ..] = rest {
+        make_chosen(alloc, store, slot, of_objects)?;
         rest = after;
     }
     Ok(())
+}
+
+/// Makes the writes, those of objects before all others, up to the first that fails.
+pub(crate) fn make_all<S: Store>(
+    alloc: Global,
+    store: &mut S,
+    slots: &[Option<Write>],
+) -> Result<(), StoreError>
+    requires apart { AreApart (kept slots.now) }
+    requires paths { AllByRecursion HasStorePath (kept slots.now) }
+    ensures done { S.told → OnOk result ((S.seen store.new).content ≡ written (S.seen store.old).content (kept slots.now)) }
+    ensures on_the_way { S.told → IsOnTheWay (S.seen store.old).content (written (S.seen store.old).content (kept slots.now)) (S.seen store.new).content }
+    ensures free { S.told → are_free (S.seen store.old).content (kept slots.now) ≡ true → IsErrOf result StoreError.Blocked → ⊥ }
+    ensures writes { Writes S.told store_cause result (S.seen store.old) (S.seen store.new) }
+{
+    make_part(alloc, store, slots, true)?;
+    make_part(alloc, store, slots, false)
 }

@@ -1,13 +1,1 @@
-pub mod Puts
-pub mod Sound
-pub mod Branches
-pub mod Made
-pub mod Ends
 pub mod Judged
-pub mod Switches
-pub mod Idents
-pub mod Ids
-pub mod Least
-pub mod Lines
-pub mod Objects
-pub mod Outcomes

@@ -1,9 +1,2 @@
-pub mod Halts
 pub mod BadWords
-pub mod Causes
-pub mod Drafts
-pub mod Sound
-pub mod Merging
-pub mod Preparing
-pub mod Committing
 pub mod Judging

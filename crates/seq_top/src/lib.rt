@@ -1,9 +1,8 @@
 //! One invocation of the program: its words in, its report and exit status out.
 #![tactic(auto)]
 
-mod halt;
 mod invocation;
-mod pick;
+mod judging;
 mod words;
 
 pub use invocation::{invoke, run};

@@ -4,9 +4,9 @@ use Rattle.std.specs.Prelude.{filter}
 use Rattle.std.specs.List.{AllByRecursion}
 use Rattle.std.proofs.lemmas.List.Elements.{filter-append}
 use Rattle.seq_base.specs.declared.map.Entry.{Entry}
-use Rattle.seq_base.specs.PathMaps.{entry_at, is_less}
+use Rattle.seq_base.specs.PathMaps.{entry_at, is_less, same_entry}
 use Rattle.stage_index.specs.Stages.{Entries}
-use Rattle.stage_index.specs.Changes.{first_difference, paths_of, same_entry}
+use Rattle.stage_index.specs.Changes.{first_difference, paths_of}
 use Rattle.stage_index.specs.Least.{least}
 use Rattle.stage_index.proofs.Leasts.{least_at}
 use Rattle.stage_index.proofs.Orders.{less_apart, less_back, more_apart, not_less_itself, same_path}

@@ -6,12 +6,12 @@ use Rattle.std.specs.Str.{bytes_eq}
 use Rattle.std.proofs.lemmas.Bool.{and_parts, eqb-true}
 use Rattle.std.proofs.lemmas.Slice.Eq.{bytes_eq-Decides}
 use Rattle.seq_base.specs.declared.map.Entry.{Entry}
-use Rattle.seq_base.specs.PathMaps.{IsAscending, IsPathMap, is_less}
+use Rattle.seq_base.specs.PathMaps.{IsAscending, IsPathMap, is_less, same_entry}
 use Rattle.index_file.specs.declared.entry.IndexEntry.{IndexEntry}
 use Rattle.index_file.specs.Entries.{IsInOrder, comes_before, holds, may_precede}
 use Rattle.seq_outside.proofs.Firsts.{first_and_others}
 use Rattle.stage_index.specs.Stages.{Entries, is_merged, map_of, row_of}
-use Rattle.stage_index.specs.Changes.{first_difference, same_entry, staged}
+use Rattle.stage_index.specs.Changes.{first_difference, staged}
 use Rattle.stage_index.specs.Walks.{lesser_difference}
 use Rattle.stage_index.proofs.Differences.{AllAfter, both_first, both_same, left_first, right_first}
 use Rattle.stage_index.proofs.Orders.{less_chain, less_otherwise}

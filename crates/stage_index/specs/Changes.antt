@@ -1,13 +1,11 @@
 -- What differs between HEAD, the index and the files (git-status(1); git-diff-files(1); git-diff-index(1), "--cached").
-use Rattle.std.specs.Prelude.{ℕ, Bool, true, false, not, ◌&&◌, ◌==◌, List, ◌++◌, filter, map, Option, Some, None}
+use Rattle.std.specs.Prelude.{ℕ, Bool, true, false, not, ◌&&◌, List, ◌++◌, filter, map, Option, Some, None}
 use Rattle.std.specs.FinMap as file
 use Rattle.std.specs.Option.{option_to_list}
 use Rattle.std.specs.Str.{bytes_eq}
-use Rattle.seq_base.specs.declared.map.Entry.{Entry}
 use Rattle.seq_base.specs.declared.mode.Mode.{Mode}
 use Rattle.seq_base.specs.declared.mode.Mode.TheVariants.{File, Exec, Link, Gitlink, Folder}
-use Rattle.seq_base.specs.Modes.{mode_number}
-use Rattle.seq_base.specs.PathMaps.{entry_at}
+use Rattle.seq_base.specs.PathMaps.{entry_at, same_entry}
 use Rattle.seq_base.specs.World.{World}
 use Rattle.index_file.specs.declared.entry.IndexEntry.{IndexEntry}
 use Rattle.object_text.specs.declared.object.Kind.TheVariants.{Blob}
@@ -43,13 +41,6 @@ unfoldable pub changed : World → List IndexEntry → Option (List ℕ)
 changed w es = least (map (λ e. e.path) (filter (is_changed w) es))
 
 -- ---- the index against HEAD
-
--- one mode and one id, or no entry twice
-abbrev pub same_entry : Option Entry → Option Entry → Bool
-same_entry None None = true
-same_entry None (Some b) = false
-same_entry (Some a) None = false
-same_entry (Some a) (Some b) = mode_number a.mode == mode_number b.mode && bytes_eq a.id b.id
 
 abbrev pub paths_of : Entries → List (List ℕ)
 paths_of es = map (λ e. e.0) es

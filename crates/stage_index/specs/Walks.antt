@@ -2,8 +2,7 @@
 use Rattle.std.specs.Prelude.{ℕ, if◌then◌else◌, List, Option, Some, None}
 use Rattle.std.specs.Str.{bytes_eq}
 use Rattle.seq_base.specs.declared.map.Entry.{Entry}
-use Rattle.seq_base.specs.PathMaps.{is_less}
-use Rattle.stage_index.specs.Changes.{same_entry}
+use Rattle.seq_base.specs.PathMaps.{is_less, same_entry}
 
 -- where two rows differ, the lesser of their paths
 abbrev pub lesser_difference : List ℕ × Entry → List ℕ × Entry → Option (List ℕ)

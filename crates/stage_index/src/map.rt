@@ -6,14 +6,8 @@ ghost use Rattle.index_file.specs.Index.{indexed};
 ghost use Rattle.stage_index.specs.Stages.{map_of};
 
 use index_file::IndexEntry;
-use seq_base::{Path, PathMap};
+use seq_base::PathMap;
 use std::alloc::{AllocError, Global};
-
-fn copy_of(path: &Path) -> Result<Path, AllocError>
-    ensures { IfOk result (λ copy. copy ≡ path.now) }
-{
-    path.clone()
-}
 
 fn copied(alloc: Global, map: &PathMap) -> Result<Vec<IndexEntry>, AllocError>
     ensures { IfOk result (λ entries. entries.items ≡ indexed map.now) }
@@ -23,7 +17,7 @@ fn copied(alloc: Global, map: &PathMap) -> Result<Vec<IndexEntry>, AllocError>
     while let Some((path, entry)) = map.at(n) {
         let _length = map.len();
         entries.push(IndexEntry {
-            path: copy_of(path)?,
+            path: path.copy()?,
             stage: 0,
             mode: entry.mode,
             id: entry.id,

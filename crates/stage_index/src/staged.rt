@@ -3,24 +3,14 @@
 ghost use Rattle.std.specs.Prelude.{◌≡◌};
 ghost use Rattle.std.specs.Option.{option_copied};
 ghost use Rattle.index_file.specs.Entries.{IsInOrder};
-ghost use Rattle.seq_base.specs.PathMaps.{is_less};
-ghost use Rattle.stage_index.specs.Changes.{same_entry, staged};
+ghost use Rattle.seq_base.specs.PathMaps.{same_entry};
+ghost use Rattle.stage_index.specs.Changes.{staged};
 ghost use Rattle.stage_index.specs.Stages.{row_of};
 ghost use Rattle.stage_index.specs.Walks.{lesser_difference};
 ghost use Rattle.std.specs.Prelude.{Some};
 
 use index_file::IndexEntry;
-use seq_base::{Entry, Path, PathMap};
-use std::cmp::Ordering;
-
-fn comes_before(a: &[u8], b: &[u8]) -> bool
-    ensures { result ≡ is_less a.now b.now }
-{
-    match a.cmp(b) {
-        Ordering::Less => true,
-        Ordering::Equal | Ordering::Greater => false,
-    }
-}
+use seq_base::{Entry, Path, PathMap, comes_before};
 
 fn is_same(staged: &IndexEntry, entry: &Entry) -> bool
     ensures { result ≡ same_entry (Some (row_of staged.now).1) (Some entry.now) }

@@ -6,9 +6,10 @@ use Rattle.std.proofs.lemmas.Bool.{cases_Bool, cond-true, cond-false, and_parts,
 use Rattle.std.proofs.lemmas.List.{append-nil}
 use Rattle.std.proofs.lemmas.List.Folds.{list_all-append}
 use Rattle.std.proofs.Math.Bool.{and-true}
-use Rattle.todo_text.specs.Words.{is_blank, from_word, to_word, trimmed, up_to_blank, from_blank, word, behind, lacks_word, unmarked, note_of}
+use Rattle.todo_text.specs.Words.{from_word, to_word, trimmed, up_to_blank, from_blank, word, behind, lacks_word, unmarked, note_of}
 use Rattle.todo_text.specs.Spells.{AreBlanks, IsWord, begins_blank, ends_blank, Begins, Leads, Trims, IsNote}
 use Rattle.todo_text.proofs.WordLemmas.{word_then_blank}
+use Rattle.seq_base.specs.Blanks.{is_blank}
 
 abbrev is_plain : ℕ → Bool
 is_plain b = not (is_blank b)

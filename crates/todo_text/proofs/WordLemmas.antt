@@ -4,7 +4,8 @@ use Rattle.std.specs.Prelude.{◌&&◌}
 use Rattle.std.specs.List.{list_all}
 use Rattle.std.proofs.lemmas.List.{take_more}
 use Rattle.std.proofs.Math.Seq.{take-append_seam}
-use Rattle.todo_text.specs.Words.{is_blank, to_word, up_to_blank, from_blank}
+use Rattle.todo_text.specs.Words.{to_word, up_to_blank, from_blank}
+use Rattle.seq_base.specs.Blanks.{is_blank}
 
 -- the word and what stands behind it are all
 pub word_then_blank : (text : List ℕ) → up_to_blank text ++ from_blank text ≡ text

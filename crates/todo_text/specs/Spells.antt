@@ -9,8 +9,9 @@ use Rattle.todo_text.specs.declared.line.PickKind.{PickKind}
 use Rattle.todo_text.specs.declared.line.PickKind.TheVariants as kind
 use Rattle.todo_text.specs.declared.line.MergeHow.{MergeHow}
 use Rattle.todo_text.specs.declared.line.MergeHow.TheVariants.{Plain, Keep, Reword}
-use Rattle.todo_text.specs.Words.{is_blank, is_hash, unmarked}
+use Rattle.todo_text.specs.Words.{is_hash, unmarked}
 use Rattle.todo_text.specs.Names.{is_label, is_updatable}
+use Rattle.seq_base.specs.Blanks.{is_blank}
 
 -- ---- words and notes
 

@@ -9,8 +9,6 @@ mod merges;
 mod names;
 mod notes;
 mod reading;
-#[cfg(test)]
-mod tests;
 mod todo;
 mod todo_kind;
 mod words;

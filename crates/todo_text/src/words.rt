@@ -1,21 +1,15 @@
 //! Words of a line, between blanks.
 
 ghost use Rattle.std.specs.Prelude.{◌≡◌, ◌≤◌, length, IfOk};
-ghost use Rattle.todo_text.specs.Words.{is_blank, from_word, to_word, from_blank, word, behind, lacks_word, is_hash, trimmed};
+ghost use Rattle.todo_text.specs.Words.{from_word, to_word, from_blank, word, behind, lacks_word, is_hash, trimmed};
 
-use seq_base::Bytes;
+use seq_base::{Bytes, is_blank};
 use std::alloc::{AllocError, Global};
 
 pub fn bytes_of(alloc: Global, bytes: &[u8]) -> Result<Bytes, AllocError>
     ensures { IfOk result (λ b. b ≡ bytes.now) }
 {
     Ok(Bytes::from_vec(Vec::from_slice(alloc, bytes)?))
-}
-
-pub fn is_blank(byte: u8) -> bool
-    ensures { result ≡ is_blank byte }
-{
-    byte == b' ' || byte == b'\t'
 }
 
 /// A text without the blanks in front.

@@ -5,11 +5,10 @@ use Rattle.std.specs.Option.{option_map}
 use Rattle.std.specs.List.{AllByRecursion, cons_option, list_any, filter_map}
 use Rattle.std.specs.Str.{bytes_eq}
 use Rattle.seq_base.specs.declared.map.Entry.{Entry}
-use Rattle.seq_base.specs.PathMaps.{AreApart, IsPathMap, clashes, entry_at, is_folder_of, is_less}
+use Rattle.seq_base.specs.PathMaps.{AreApart, IsPathMap, clashes, entry_at, is_folder_of, is_less, same_entry}
 use Rattle.tree_merge.specs.declared.rules.Choice.{Choice}
 use Rattle.tree_merge.specs.declared.rules.Choice.TheVariants.{Take, Content, Conflict}
 use Rattle.tree_merge.specs.declared.plans.Planned.{Planned}
-use Rattle.tree_merge.specs.Choices.{same_entry}
 use Rattle.tree_merge.specs.Choosing.{choice}
 use Rattle.tree_merge.specs.Plans.{Entries, is_listed, is_present, is_under, is_upper, listed, marked, paths_of, plan_of, row_at}
 use Rattle.tree_merge.specs.Results.{HasNoClash, result_of, taken, taken_at}

@@ -5,9 +5,9 @@ use Rattle.std.specs.Str.{bytes_eq}
 use Rattle.seq_base.specs.declared.map.Entry.{Entry}
 use Rattle.seq_base.specs.declared.mode.Mode.{Mode}
 use Rattle.seq_base.specs.declared.mode.Mode.TheVariants.{Folder}
-use Rattle.seq_base.specs.PathMaps.{HoldsFiles, IsPathMap, entry_at}
+use Rattle.seq_base.specs.PathMaps.{HoldsFiles, IsPathMap, entry_at, same_entry}
 use Rattle.tree_merge.specs.declared.rules.Choice.TheVariants.{Take, Conflict}
-use Rattle.tree_merge.specs.Choices.{agreed, is_file_mode, same_entry, same_mode}
+use Rattle.tree_merge.specs.Choices.{agreed, is_file_mode, same_mode}
 use Rattle.tree_merge.specs.Choosing.{by_parts, changed, choice, may_be_file, merged_files, merged_id, merged_mode}
 use Rattle.tree_merge.specs.Plans.{Entries, paths_of, plan_of}
 use Rattle.tree_merge.specs.Results.{conflict_in, result_of, taken, taken_at}

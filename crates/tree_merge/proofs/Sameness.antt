@@ -8,8 +8,9 @@ use Rattle.seq_base.specs.declared.map.Entry.{Entry}
 use Rattle.seq_base.specs.declared.mode.Mode.{Mode}
 use Rattle.seq_base.specs.declared.mode.Mode.TheVariants.{File, Exec, Link, Gitlink, Folder}
 use Rattle.seq_base.specs.Modes.{mode_number}
+use Rattle.seq_base.specs.PathMaps.{same_entry}
 use Rattle.tree_merge.specs.declared.rules.Choice.TheVariants.{Take, Conflict}
-use Rattle.tree_merge.specs.Choices.{agreed, is_file_mode, same_entry, same_id, same_mode}
+use Rattle.tree_merge.specs.Choices.{agreed, is_file_mode, same_id, same_mode}
 use Rattle.tree_merge.specs.Choosing.{choice, changed, by_parts, may_be_file, merged_files, merged_id, merged_mode}
 
 -- the mode with a number

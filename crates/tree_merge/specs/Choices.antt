@@ -1,8 +1,7 @@
--- Sameness of modes, ids and entries, and the side that a merge of three takes (git-merge-file(1): "incorporates all
+-- Sameness of modes and ids, and the side that a merge of three takes (git-merge-file(1): "incorporates all
 -- changes that lead from the base to either side").
-use Rattle.std.specs.Prelude.{ℕ, Bool, true, false, ◌&&◌, ◌==◌, if◌then◌else◌, List, Option, Some, None}
+use Rattle.std.specs.Prelude.{ℕ, Bool, true, false, ◌==◌, if◌then◌else◌, List, Option, Some, None}
 use Rattle.std.specs.Str.{bytes_eq}
-use Rattle.seq_base.specs.declared.map.Entry.{Entry}
 use Rattle.seq_base.specs.declared.mode.Mode.{Mode}
 use Rattle.seq_base.specs.declared.mode.Mode.TheVariants.{File, Exec, Link, Gitlink, Folder}
 use Rattle.seq_base.specs.Modes.{mode_number}
@@ -12,13 +11,6 @@ same_mode a b = mode_number a == mode_number b
 
 abbrev pub same_id : List ℕ → List ℕ → Bool
 same_id a b = bytes_eq a b
-
--- two entries that are both there with one mode and one id, or both missing
-abbrev pub same_entry : Option Entry → Option Entry → Bool
-same_entry None None = true
-same_entry None (Some b) = false
-same_entry (Some a) None = false
-same_entry (Some a) (Some b) = same_mode a.mode b.mode && same_id a.id b.id
 
 -- a regular file, executable or not
 abbrev pub is_file_mode : Mode → Bool

@@ -3,7 +3,8 @@ use Rattle.std.specs.Prelude.{ℕ, Bool, true, false, ◌&&◌, if◌then◌else
 use Rattle.std.specs.Option.{option_map_or}
 use Rattle.seq_base.specs.declared.map.Entry.{Entry}
 use Rattle.seq_base.specs.declared.mode.Mode.{Mode}
-use Rattle.tree_merge.specs.Choices.{agreed, is_file_mode, same_entry, same_id, same_mode}
+use Rattle.seq_base.specs.PathMaps.{same_entry}
+use Rattle.tree_merge.specs.Choices.{agreed, is_file_mode, same_id, same_mode}
 use Rattle.tree_merge.specs.declared.rules.Choice.{Choice}
 use Rattle.tree_merge.specs.declared.rules.Choice.TheVariants.{Take, Content, Conflict}
 

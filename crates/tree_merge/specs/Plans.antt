@@ -4,11 +4,10 @@ use Rattle.std.specs.Prelude.{◌≡◌, ℕ, ◌<◌, Bool, true, false, not, �
 use Rattle.std.specs.List.{list_any}
 use Rattle.std.specs.Str.{bytes_eq}
 use Rattle.seq_base.specs.declared.map.Entry.{Entry}
-use Rattle.seq_base.specs.PathMaps.{entry_at, is_folder_of, is_less}
+use Rattle.seq_base.specs.PathMaps.{entry_at, is_folder_of, is_less, same_entry}
 use Rattle.tree_merge.specs.declared.rules.Choice.{Choice}
 use Rattle.tree_merge.specs.declared.rules.Choice.TheVariants.{Take, Content, Conflict}
 use Rattle.tree_merge.specs.declared.plans.Planned.{Planned}
-use Rattle.tree_merge.specs.Choices.{same_entry}
 use Rattle.tree_merge.specs.Choosing.{choice}
 
 -- a map, as the list of path and entry in order

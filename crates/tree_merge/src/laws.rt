@@ -2,8 +2,7 @@
 
 ghost use Rattle.std.specs.Prelude.{◌≡◌, ◌↔◌, IsTrue};
 ghost use Rattle.tree_merge.specs.declared.rules.Choice.TheVariants.{Take};
-ghost use Rattle.tree_merge.specs.Choices.{same_entry};
-ghost use Rattle.seq_base.specs.PathMaps.{AreApart, IsPathMap};
+ghost use Rattle.seq_base.specs.PathMaps.{AreApart, IsPathMap, same_entry};
 ghost use Rattle.tree_merge.specs.Choosing.{choice};
 ghost use Rattle.tree_merge.specs.Plans.{Entries, plan_of};
 ghost use Rattle.tree_merge.specs.Results.{HasNoClash, result_of};

@@ -7,8 +7,6 @@ mod laws;
 mod merged;
 mod plans;
 mod rules;
-#[cfg(test)]
-mod tests;
 mod walk;
 
 pub use laws::{

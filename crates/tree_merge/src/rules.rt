@@ -1,8 +1,9 @@
 //! What a three-way merge makes of one path's entries.
 
 ghost use Rattle.std.specs.Prelude.{◌≡◌};
-ghost use Rattle.tree_merge.specs.Choices.{is_file_mode, same_entry, same_id, same_mode};
+ghost use Rattle.tree_merge.specs.Choices.{is_file_mode, same_id, same_mode};
 ghost use Rattle.tree_merge.specs.Choosing.{choice, changed, may_be_file, merged_files, merged_id, merged_mode};
+ghost use Rattle.seq_base.specs.PathMaps.{same_entry};
 
 use seq_base::{Entry, Id, Mode};
 

@@ -1,8 +1,5 @@
-pub mod Keys
 pub mod Obstacles
-pub mod SwitchLists
+pub mod Owning
 pub mod ReadBlobs
-pub mod Placing
-pub mod NoneLeast
-pub mod Unblocked
-pub mod Joining
+pub mod SwitchLists
+pub mod Making

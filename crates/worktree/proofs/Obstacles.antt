@@ -1,25 +1,20 @@
 -- Files in the way of a path: at it, in the place of one of its folders, and below it.
-use Rattle.std.proofs.Common.{◌≡◌, ◌⊎◌, inl, inr, ℕ, zero, suc, ◌+◌, ◌<◌, ◌≤◌, Bool, true, false, ◌||◌, ◌&&◌, ◌==◌, List, [], ◌∷◌, ◌++◌, length, take, drop, get_or, refl, sym, ap, subst, ◌∙◌, arith}
+use Rattle.std.proofs.Common.{◌≡◌, ◌⊎◌, inl, inr, ℕ, zero, suc, ◌+◌, ◌<◌, ◌≤◌, Bool, true, false, ◌||◌, ◌&&◌, ◌==◌, List, [], ◌∷◌, ◌++◌, length, take, drop, get_or, refl, sym, ap, subst, arith}
 use Rattle.std.specs.Cmp.{both_ways as same_tests}
 use Rattle.std.specs.FinMap as map
-use Rattle.std.specs.List.{list_all, list_any}
+use Rattle.std.specs.List.{list_any}
 use Rattle.std.specs.Str.{bytes_eq}
 use Rattle.std.proofs.lemmas.Bool.{and_from, and_parts, both_ways, cases_lt, eq-eqb, eqb-true, false_from_ne_true, or_left, or_right}
-use Rattle.std.proofs.lemmas.List.Folds.{list_all-append}
 use Rattle.std.proofs.lemmas.Slice.Eq.{bytes_eq-Decides}
-use Rattle.std.proofs.lemmas.Str.{IsCharBoundary-before_ascii, IsUtf8-take}
-use Rattle.seq_base.specs.Paths.{IsPath, parts}
-use Rattle.seq_base.specs.StorePaths.{IsStorePath, is_store_part, is_text}
+use Rattle.seq_base.specs.Paths.{IsPath}
 use Rattle.seq_base.specs.World.{World, is_below}
-use Rattle.seq_base.proofs.Below.{behind, below}
-use Rattle.seq_base.proofs.Places.{parts-behind}
-use Rattle.seq_base.proofs.StorePathLemmas.{path_is_store_path}
-use Rattle.seq_base.proofs.Texts.{is_text-utf8}
+use Rattle.seq_base.proofs.Below.{below}
 use Rattle.seq_outside.specs.Store.{files_below}
 use Rattle.index_file.specs.declared.entry.IndexEntry.{IndexEntry}
 use Rattle.stage_index.specs.Switching.{is_in_way, is_untracked}
 use Rattle.worktree.specs.Folders.{is_file_before}
-use Rattle.worktree.proofs.Keys.{any-filter, any_of, one_of}
+use Rattle.seq_outside.proofs.Blocking.{front}
+use Rattle.seq_outside.proofs.Keys.{any-filter, any_of, one_of}
 
 -- ---- the folders of a path
 
@@ -28,32 +23,8 @@ front_and_rest [] n lt is = absurd (omega arith)
 front_and_rest (b ∷ path) zero lt is = ap (λ (c : ℕ). c ∷ path) is
 front_and_rest (b ∷ path) (suc n) lt is = let k : suc n + 1 ≡ suc (n + 1) = omega arith in rw k (ap (λ (xs : List ℕ). b ∷ xs) (front_and_rest path n (omega arith) is))
 
--- the place of a folder of a path is a store path
-pub front_is_store_path : (path : List ℕ) (n : ℕ) → IsPath path → n < length path → get_or path n 0 ≡ 47 → IsStorePath (take n path)
-front_is_store_path path n is lt slash =
-    let whole = path_is_store_path path is in
-    let all = and_parts (is_text path) (list_all is_store_part (parts path)) whole in
-    let split = ap parts (front_and_rest path n lt slash) ∙ parts-behind (take n path) (drop (n + 1) path) in
-    let both = and_parts (list_all is_store_part (parts (take n path))) (list_all is_store_part (parts (drop (n + 1) path))) (sym (list_all-append is_store_part (parts (take n path)) (parts (drop (n + 1) path))) ∙ ap (list_all is_store_part) (sym split) ∙ all.1) in
-    let ascii : get_or path n 0 < 128 = omega (arith, slash) in
-    and_from (is_text (take n path)) (list_all is_store_part (parts (take n path))) (is_text-utf8 (take n path) (IsUtf8-take path n is.text (IsCharBoundary-before_ascii path n lt ascii))) both.0
-
-pub front_above : (path : List ℕ) (n : ℕ) → n < length path → get_or path n 0 ≡ 47 → is_below (take n path) path ≡ true
+front_above : (path : List ℕ) (n : ℕ) → n < length path → get_or path n 0 ≡ 47 → is_below (take n path) path ≡ true
 front_above path n lt slash = subst (λ (p : List ℕ). is_below (take n path) p ≡ true) (sym (front_and_rest path n lt slash)) (below (take n path) (drop (n + 1) path))
-
--- a folder of a path ends before one of its slashes
-record Front (file path : List ℕ) : Type 0 where
-  place : ℕ
-  within : place < length path
-  slash : get_or path place 0 ≡ 47
-  is : file ≡ take place path
-
-front_of : (file rest : List ℕ) → Front file (file ++ 47 ∷ rest)
-front_of [] rest = record { place = 0; within = omega arith; slash = refl; is = refl }
-front_of (b ∷ file) rest = let f = front_of file rest in record { place = suc f.place; within = let lt = f.within in omega arith; slash = f.slash; is = ap (λ (xs : List ℕ). b ∷ xs) f.is }
-
-front : (file path : List ℕ) → is_below file path ≡ true → Front file path
-front file path is = let k = behind file path is in subst (Front file) (sym k.1) (front_of file k.0)
 
 -- ---- a file stands in the place of a folder
 

@@ -1,8 +1,7 @@
 -- The writes of a switch, as far as they were gathered.
-use Rattle.std.proofs.Common.{◌≡◌, ℕ, ◌-◌, ◌<◌, Bool, true, false, cond, List, [], ◌∷◌, ◌++◌, append_assoc, length, take, drop, get_or, Option, Some, None, Result, Ok, Err, refl, sym, ap, subst, ◌∙◌, arith}
-use Rattle.std.specs.Prelude.{codes, filter, is_none, map}
+use Rattle.std.proofs.Common.{◌≡◌, ℕ, ◌-◌, ◌<◌, Bool, true, false, cond, List, [], ◌∷◌, ◌++◌, append_assoc, length, take, drop, get_or, Result, Ok, Err, refl, sym, ap, subst, ◌∙◌, arith}
+use Rattle.std.specs.Prelude.{codes, filter, map}
 use Rattle.std.proofs.lemmas.List.Elements.{filter-append}
-use Rattle.seq_base.specs.PathMaps.{entry_at}
 use Rattle.seq_base.specs.World.{World}
 use Rattle.seq_outside.specs.declared.write.Write.{Write}
 use Rattle.seq_outside.specs.declared.write.Write.TheVariants.{Put, Remove}
@@ -11,19 +10,22 @@ use Rattle.index_file.specs.declared.entry.IndexEntry.{IndexEntry}
 use Rattle.index_file.specs.Index.{indexed}
 use Rattle.index_file.specs.Spelling.{index_text}
 use Rattle.stage_index.specs.Stages.{Entries, map_of, row_of}
-use Rattle.stage_index.specs.Switching.{SwitchFault, InWay, NoBlob, ◌>>=◌, blob_at, blob_writes, clear_writes, first_obstructed, index_write, is_rewritten, or_no_blob, removals, switch_writes}
+use Rattle.stage_index.specs.Switching.{index_write, is_dropped, is_rewritten, removals}
 use Rattle.stage_index.proofs.Indexing.{rows_of-indexed}
-use Rattle.worktree.specs.declared.fault.WorkFault.{WorkFault}
-use Rattle.worktree.specs.declared.fault.WorkFault.TheVariants.{WouldOverwrite, BadObject, TooLarge, Fault, Memory}
-use Rattle.worktree.specs.Blobs.{Refuses}
+use Rattle.seq_outside.specs.Halts.{◌>>=◌, Denies}
+use Rattle.seq_outside.specs.declared.halt.Halt.{Halt}
+use Rattle.seq_outside.specs.declared.halt.Halt.TheVariants.{Stops, Fault, Memory}
+use Rattle.seq_outside.specs.declared.lack.Lack.{Lack}
+use Rattle.worktree.specs.Blobs.{blob_named}
+use Rattle.worktree.specs.Writes.{blob_writes, clear_writes}
 
 -- ---- removals
 
 removals_split : (x : IndexEntry) (xs : List IndexEntry) (to : Entries) → removals (x ∷ xs) to ≡ removals (x ∷ []) to ++ removals xs to
-removals_split x xs to = at (is_none (entry_at to x.path))
+removals_split x xs to = at (is_dropped to x)
   where
     others : List IndexEntry
-    others = filter (λ e. is_none (entry_at to e.path)) xs
+    others = filter (is_dropped to) xs
 
     at : (t : Bool) → map (λ e. Remove e.path) (cond t (x ∷ others) others) ≡ map (λ e. Remove e.path) (cond t (x ∷ []) []) ++ map (λ e. Remove e.path) others
     at true = refl
@@ -60,7 +62,7 @@ pub record BlobsSoFar (w : World) (from all rest : List IndexEntry) (old now : L
   pub now_is : now ≡ old ++ made
   pub means : blob_writes w (chosen from all) ≡ (blob_writes w (chosen from rest) >>= λ more. Ok (made ++ more))
 
-same_writes : (r : Result (List Write) SwitchFault) → r ≡ (r >>= λ more. Ok ([] ++ more))
+same_writes : (r : Result (List Write) Lack) → r ≡ (r >>= λ more. Ok ([] ++ more))
 same_writes (Ok ws) = refl
 same_writes (Err e) = refl
 
@@ -71,15 +73,15 @@ blobs_begin w from all old = record { made = []; now_is = sym (nothing_more old)
 both_writes : (w : World) (xs ys : Entries) → blob_writes w (xs ++ ys) ≡ (blob_writes w xs >>= λ first. (blob_writes w ys >>= λ more. Ok (first ++ more)))
 unfolding blob_writes
 both_writes w [] ys = same_writes (blob_writes w ys)
-both_writes w (x ∷ xs) ys = at (or_no_blob (blob_at w x.1.id) x.1.id) (both_writes w xs ys)
+both_writes w (x ∷ xs) ys = at (blob_named w x.1.id) (both_writes w xs ys)
   where
-    at : (r : Result (List ℕ) SwitchFault) → blob_writes w (xs ++ ys) ≡ (blob_writes w xs >>= λ first. (blob_writes w ys >>= λ more. Ok (first ++ more)))
+    at : (r : Result (List ℕ) Lack) → blob_writes w (xs ++ ys) ≡ (blob_writes w xs >>= λ first. (blob_writes w ys >>= λ more. Ok (first ++ more)))
         → (r >>= λ bytes. (blob_writes w (xs ++ ys) >>= λ others. Ok (Put x.0 bytes ∷ others)))
         ≡ ((r >>= λ bytes. (blob_writes w xs >>= λ others. Ok (Put x.0 bytes ∷ others))) >>= λ first. (blob_writes w ys >>= λ more. Ok (first ++ more)))
     at (Err e) later = refl
-    at (Ok bytes) later = ap (λ (r : Result (List Write) SwitchFault). r >>= λ others. Ok (Put x.0 bytes ∷ others)) later ∙ inner (blob_writes w xs) (blob_writes w ys)
+    at (Ok bytes) later = ap (λ (r : Result (List Write) Lack). r >>= λ others. Ok (Put x.0 bytes ∷ others)) later ∙ inner (blob_writes w xs) (blob_writes w ys)
       where
-        inner : (p q : Result (List Write) SwitchFault) → ((p >>= λ first. (q >>= λ more. Ok (first ++ more))) >>= λ others. Ok (Put x.0 bytes ∷ others)) ≡ ((p >>= λ others. Ok (Put x.0 bytes ∷ others)) >>= λ first. (q >>= λ more. Ok (first ++ more)))
+        inner : (p q : Result (List Write) Lack) → ((p >>= λ first. (q >>= λ more. Ok (first ++ more))) >>= λ others. Ok (Put x.0 bytes ∷ others)) ≡ ((p >>= λ others. Ok (Put x.0 bytes ∷ others)) >>= λ first. (q >>= λ more. Ok (first ++ more)))
         inner (Err e) q = refl
         inner (Ok ws) (Err e) = refl
         inner (Ok ws) (Ok vs) = refl
@@ -90,7 +92,7 @@ chosen_split from x xs = filter-append (is_rewritten from) (row_of x ∷ []) (ma
 split_means : (w : World) (from all : List IndexEntry) (x : IndexEntry) (xs : List IndexEntry) (made : List Write) → blob_writes w (chosen from all) ≡ (blob_writes w (chosen from (x ∷ xs)) >>= λ more. Ok (made ++ more))
     → blob_writes w (chosen from all) ≡ ((blob_writes w (chosen from (x ∷ [])) >>= λ first. (blob_writes w (chosen from xs) >>= λ more. Ok (first ++ more))) >>= λ more. Ok (made ++ more))
 split_means w from all x xs made so_far =
-    so_far ∙ ap (λ (r : Result (List Write) SwitchFault). r >>= λ more. Ok (made ++ more)) (ap (blob_writes w) (chosen_split from x xs) ∙ both_writes w (chosen from (x ∷ [])) (chosen from xs))
+    so_far ∙ ap (λ (r : Result (List Write) Lack). r >>= λ more. Ok (made ++ more)) (ap (blob_writes w) (chosen_split from x xs) ∙ both_writes w (chosen from (x ∷ [])) (chosen from xs))
 
 -- what one entry makes was pushed
 abbrev pub Pushed : World → List IndexEntry → IndexEntry → List Write → List Write → Type 0
@@ -104,28 +106,26 @@ blobs_more w from all rest old now new x so_far some is pushed =
     record {
       made = so_far.made ++ pushed.0;
       now_is = pushed.2 ∙ ap (λ (ws : List Write). ws ++ pushed.0) so_far.now_is ∙ append_assoc old so_far.made pushed.0;
-      means = split_means w from all x others so_far.made means ∙ ap (λ (r : Result (List Write) SwitchFault). (r >>= λ first. (blob_writes w (chosen from others) >>= λ more. Ok (first ++ more))) >>= λ more. Ok (so_far.made ++ more)) pushed.1 ∙ regroup so_far.made pushed.0 (blob_writes w (chosen from others));
+      means = split_means w from all x others so_far.made means ∙ ap (λ (r : Result (List Write) Lack). (r >>= λ first. (blob_writes w (chosen from others) >>= λ more. Ok (first ++ more))) >>= λ more. Ok (so_far.made ++ more)) pushed.1 ∙ regroup so_far.made pushed.0 (blob_writes w (chosen from others));
     }
   where
-    regroup : (made first : List Write) (r : Result (List Write) SwitchFault) → ((r >>= λ more. Ok (first ++ more)) >>= λ more. Ok (made ++ more)) ≡ (r >>= λ more. Ok ((made ++ first) ++ more))
+    regroup : (made first : List Write) (r : Result (List Write) Lack) → ((r >>= λ more. Ok (first ++ more)) >>= λ more. Ok (made ++ more)) ≡ (r >>= λ more. Ok ((made ++ first) ++ more))
     regroup made first (Err e) = refl
     regroup made first (Ok more) = ap Ok (sym (append_assoc made first more))
 
 -- where one fails all do
-fails_with : (w : World) (from all rest : List IndexEntry) (old now : List Write) (x : IndexEntry) (e : SwitchFault) → BlobsSoFar w from all rest old now → 0 < length rest → x ≡ get_or rest 0 x
+fails_with : (w : World) (from all rest : List IndexEntry) (old now : List Write) (x : IndexEntry) (e : Lack) → BlobsSoFar w from all rest old now → 0 < length rest → x ≡ get_or rest 0 x
     → blob_writes w (chosen from (x ∷ [])) ≡ Err e → blob_writes w (chosen from all) ≡ Err e
 fails_with w from all rest old now x e so_far some is failed =
     let others = take (length rest - 1) (drop 1 rest) in
     let means = subst (λ (es : List IndexEntry). blob_writes w (chosen from all) ≡ (blob_writes w (chosen from es) >>= λ more. Ok (so_far.made ++ more))) (first_and_others rest x some is) so_far.means in
-    split_means w from all x others so_far.made means ∙ ap (λ (r : Result (List Write) SwitchFault). (r >>= λ first. (blob_writes w (chosen from others) >>= λ more. Ok (first ++ more))) >>= λ more. Ok (so_far.made ++ more)) failed
+    split_means w from all x others so_far.made means ∙ ap (λ (r : Result (List Write) Lack). (r >>= λ first. (blob_writes w (chosen from others) >>= λ more. Ok (first ++ more))) >>= λ more. Ok (so_far.made ++ more)) failed
 
-pub blobs_fail : (w : World) (from all rest : List IndexEntry) (old now : List Write) (x : IndexEntry) (e : WorkFault) → BlobsSoFar w from all rest old now → 0 < length rest → x ≡ get_or rest 0 x
-    → Refuses e w (blob_writes w (chosen from (x ∷ []))) → Refuses e w (blob_writes w (chosen from all))
-blobs_fail w from all rest old now x (WouldOverwrite path) so_far some is refused = fails_with w from all rest old now x _ so_far some is refused
-blobs_fail w from all rest old now x (BadObject id) so_far some is refused = (fails_with w from all rest old now x _ so_far some is refused.0, refused.1)
-blobs_fail w from all rest old now x (TooLarge count) so_far some is refused = (refused.0, fails_with w from all rest old now x _ so_far some is refused.1, refused.2)
-blobs_fail w from all rest old now x Fault so_far some is refused = tt
-blobs_fail w from all rest old now x Memory so_far some is refused = tt
+pub blobs_denied : (w : World) (from all rest : List IndexEntry) (old now : List Write) (x : IndexEntry) (halt : Halt Lack) → BlobsSoFar w from all rest old now → 0 < length rest → x ≡ get_or rest 0 x
+    → Denies halt (blob_writes w (chosen from (x ∷ []))) → Denies halt (blob_writes w (chosen from all))
+blobs_denied w from all rest old now x (Stops why) so_far some is denied = fails_with w from all rest old now x why so_far some is denied
+blobs_denied w from all rest old now x Fault so_far some is denied = tt
+blobs_denied w from all rest old now x Memory so_far some is denied = tt
 
 last : (w : World) (made : List Write) → (blob_writes w [] >>= λ more. Ok (made ++ more)) ≡ Ok made
 unfolding blob_writes
@@ -137,33 +137,20 @@ blobs_end w from all rest old now so_far none =
 
 -- ---- all of it
 
-pub obstructed_switch : (w : World) (from : List IndexEntry) (to : Entries) (path : List ℕ) → first_obstructed w from to ≡ Some path → switch_writes w from to ≡ Err (InWay path)
-unfolding switch_writes
-obstructed_switch w from to path is = rw is refl
-
-pub clear_switch : (w : World) (from : List IndexEntry) (to : Entries) → first_obstructed w from to ≡ None → clear_writes w from to ≡ switch_writes w from to
-unfolding switch_writes
-clear_switch w from to free = rw free refl
-
-fails_so : (w : World) (from : List IndexEntry) (to : Entries) (e : SwitchFault) → blob_writes w (filter (is_rewritten from) to) ≡ Err e → clear_writes w from to ≡ Err e
+fails_so : (w : World) (from : List IndexEntry) (to : Entries) (why : Lack) → blob_writes w (filter (is_rewritten from) to) ≡ Err why → clear_writes w from to ≡ Err why
 unfolding clear_writes
-fails_so w from to e is = rw is refl
+fails_so w from to why is = rw is refl
 
-pub refused_clear : (w : World) (from : List IndexEntry) (to : Entries) (e : WorkFault) → Refuses e w (blob_writes w (filter (is_rewritten from) to)) → Refuses e w (clear_writes w from to)
-refused_clear w from to (WouldOverwrite path) refused = fails_so w from to (InWay path) refused
-refused_clear w from to (BadObject id) refused = (fails_so w from to (NoBlob id) refused.0, refused.1)
-refused_clear w from to (TooLarge count) refused = (refused.0, fails_so w from to (NoBlob refused.0) refused.1, refused.2)
-refused_clear w from to Fault refused = tt
-refused_clear w from to Memory refused = tt
+pub clear_denied : (w : World) (from : List IndexEntry) (to : Entries) (halt : Halt Lack) → Denies halt (blob_writes w (filter (is_rewritten from) to)) → Denies halt (clear_writes w from to)
+clear_denied w from to (Stops why) denied = fails_so w from to why denied
+clear_denied w from to Fault denied = tt
+clear_denied w from to Memory denied = tt
 
 pub all_writes : (w : World) (from : List IndexEntry) (to : Entries) (blobs : List Write) → blob_writes w (filter (is_rewritten from) to) ≡ Ok blobs → clear_writes w from to ≡ Ok (removals from to ++ index_write to ∷ blobs)
 unfolding clear_writes
 all_writes w from to blobs is = rw is refl
 
 -- the entries that are gone through are those of the map
-pub found_in : (w : World) (from : List IndexEntry) (to : Entries) (items slice : List IndexEntry) (found : Option (List ℕ)) → items ≡ indexed to → items ≡ slice → found ≡ first_obstructed w from (map row_of slice) → first_obstructed w from to ≡ found
-found_in w from to items slice found is same found_is = ap (first_obstructed w from) (sym (rows_of-indexed to) ∙ ap (map row_of) (sym is ∙ same)) ∙ sym found_is
-
 pub rows_in : (to : Entries) (items slice : List IndexEntry) → items ≡ indexed to → items ≡ slice → map row_of slice ≡ to
 rows_in to items slice is same = ap (map row_of) (sym same ∙ is) ∙ rows_of-indexed to
 

@@ -1,4 +1,5 @@
-pub mod Causes
 pub mod Folders
 pub mod Blobs
-pub mod Placed
+pub mod Own
+pub mod Writes
+pub mod Switches

@@ -1,17 +1,17 @@
 //! Files as blobs.
 
-ghost use Rattle.std.specs.Prelude.{◌≡◌};
+ghost use Rattle.std.specs.Prelude.{◌≡◌, IsErrOf};
 ghost use Rattle.std.specs.Str.{bytes_eq};
+ghost use Rattle.seq_outside.specs.Halts.{Gives, halt_cause};
+ghost use Rattle.seq_outside.specs.Seen.{Reads};
 ghost use Rattle.stage_index.specs.Changes.{blob_id};
-ghost use Rattle.worktree.specs.Blobs.{GivesBlob, judged};
-ghost use Rattle.worktree.specs.Causes.{HasCause};
+ghost use Rattle.worktree.specs.Blobs.{blob_in as blob_in_object, blob_named};
 
-use crate::fault::WorkFault;
 use itoa::Buffer;
 use object_text::{Kind, Object};
-use objects::{ObjectFault, get};
+use objects::read_object;
 use seq_base::{Bytes, Id};
-use seq_outside::Store;
+use seq_outside::{Halt, Lack, Store};
 use sha1::Sha1;
 use std::alloc::Global;
 
@@ -34,31 +34,26 @@ pub(crate) fn is_blob(bytes: &[u8], id: &Id) -> bool
     blob_id_of(bytes).bytes() == id.bytes()
 }
 
-/// The bytes of the object that was got, if it is a blob.
-fn judge(got: Result<Object, ObjectFault>, id: Id) -> Result<Bytes, WorkFault>
-    ensures { result ≡ judged got id }
+/// The bytes of an object that is a blob.
+#[tactic(auto, unfolding(crate::specs::Blobs::blob_in))]
+fn blob_in(id: Id, object: Object) -> Result<Bytes, Halt<Lack>>
+    ensures gives { Gives (λ bytes. bytes) result (blob_in_object id object) }
+    ensures no_fault { IsErrOf result Halt.Fault → ⊥ }
 {
-    match got {
-        Ok(object) => match object.kind {
-            Kind::Blob => Ok(object.bytes),
-            Kind::Tree | Kind::Commit | Kind::Tag => Err(WorkFault::BadObject { id }),
-        },
-        Err(ObjectFault::TooLarge { length }) => Err(WorkFault::TooLarge { length }),
-        Err(ObjectFault::Fault) => Err(WorkFault::Fault),
-        Err(ObjectFault::Memory) => Err(WorkFault::Memory),
-        Err(ObjectFault::Missing) => Err(WorkFault::BadObject { id }),
-        Err(ObjectFault::WrongHash { .. }) => Err(WorkFault::BadObject { id }),
-        Err(ObjectFault::BadText { .. }) => Err(WorkFault::BadObject { id }),
-        Err(ObjectFault::Collision { .. }) => Err(WorkFault::BadObject { id }),
+    match object.kind {
+        Kind::Blob => Ok(object.bytes),
+        Kind::Tree => Err(Halt::Stops(Lack::Object { id })),
+        Kind::Commit => Err(Halt::Stops(Lack::Object { id })),
+        Kind::Tag => Err(Halt::Stops(Lack::Object { id })),
     }
 }
 
-/// Reads a blob. BadObject where it is missing, damaged or of another kind, and TooLarge where it passes the limit.
-pub(crate) fn read_blob<S: Store>(alloc: Global, store: &mut S, id: Id) -> Result<Bytes, WorkFault>
-    ensures gives { S.told → GivesBlob result (S.content store.old) id }
-    ensures same { S.told → S.content store.new ≡ S.content store.old }
-    ensures cause { HasCause result (S.faults store.old) (S.faults store.new) (S.blocked store.old) (S.blocked store.new) }
+/// The bytes of a blob. Object where it is missing, damaged or of another kind, Limit where it is too large.
+#[tactic(auto, unfolding(crate::specs::Blobs::blob_named))]
+pub(crate) fn read_blob<S: Store>(alloc: Global, store: &mut S, id: Id) -> Result<Bytes, Halt<Lack>>
+    ensures gives { S.told → Gives (λ bytes. bytes) result (blob_named (S.seen store.old).content id) }
+    ensures reads { Reads S.told halt_cause result (S.seen store.old) (S.seen store.new) }
 {
-    let got = get(alloc, store, id);
-    judge(got, id)
+    let object = read_object(alloc, store, id)?;
+    blob_in(id, object)
 }

@@ -3,26 +3,22 @@
 ghost use Rattle.std.specs.Prelude.{◌≡◌, IfOk};
 ghost use Rattle.index_file.specs.Entries.{IsInOrder};
 ghost use Rattle.stage_index.specs.Changes.{changed, is_changed as is_changed_in};
-ghost use Rattle.worktree.specs.Causes.{HasReadCause};
+ghost use Rattle.seq_outside.specs.Seen.{Reads, store_cause};
 
 use crate::blob::is_blob;
-use crate::fault::WorkFault;
 use crate::rewritten::is_gitlink;
 use index_file::IndexEntry;
 use seq_base::Path;
-use seq_outside::Store;
-use std::alloc::{AllocError, Global};
+use seq_outside::{Store, StoreError};
+use std::alloc::Global;
 
-fn copy_of(path: &Path) -> Result<Path, AllocError>
-    ensures { IfOk result (λ copy. copy ≡ path.now) }
-{
-    path.clone()
-}
-
-fn is_changed<S: Store>(alloc: Global, store: &mut S, entry: &IndexEntry) -> Result<bool, WorkFault>
-    ensures told { S.told → IfOk result (λ is. is ≡ is_changed_in (S.content store.old) entry.now) }
-    ensures same { S.told → S.content store.new ≡ S.content store.old }
-    ensures cause { HasReadCause result (S.faults store.old) (S.faults store.new) (S.blocked store.old) (S.blocked store.new) }
+fn is_changed<S: Store>(
+    alloc: Global,
+    store: &mut S,
+    entry: &IndexEntry,
+) -> Result<bool, StoreError>
+    ensures told { S.told → IfOk result (λ is. is ≡ is_changed_in (S.seen store.old).content entry.now) }
+    ensures reads { Reads S.told store_cause result (S.seen store.old) (S.seen store.new) }
 {
     if is_gitlink(entry.mode) {
         return Ok(false);
@@ -39,16 +35,15 @@ pub fn first_change<S: Store>(
     alloc: Global,
     store: &mut S,
     index: &[IndexEntry],
-) -> Result<Option<Path>, WorkFault>
+) -> Result<Option<Path>, StoreError>
     requires { IsInOrder index.now }
-    ensures found { S.told → IfOk result (λ found. found ≡ changed (S.content store.old) index.now) }
-    ensures same { S.told → S.content store.new ≡ S.content store.old }
-    ensures cause { HasReadCause result (S.faults store.old) (S.faults store.new) (S.blocked store.old) (S.blocked store.new) }
+    ensures found { S.told → IfOk result (λ found. found ≡ changed (S.seen store.old).content index.now) }
+    ensures reads { Reads S.told store_cause result (S.seen store.old) (S.seen store.new) }
 {
     let mut rest = index;
     while let [entry, after @ ..] = rest {
         if is_changed(alloc, store, entry)? {
-            return Ok(Some(copy_of(&entry.path)?));
+            return Ok(Some(entry.path.copy()?));
         }
         rest = after;
     }

@@ -3,14 +3,13 @@
 
 mod blob;
 mod changed;
-mod fault;
+mod make;
 mod obstacle;
 mod rewritten;
+mod switching;
 mod writes;
 
 pub use changed::first_change;
-pub use fault::WorkFault;
-pub use writes::{clear_writes, obstructed_path, switch_writes};
-
-#[cfg(test)]
-mod tests;
+pub use make::make_writes;
+pub use switching::{obstructed_path, switch, switch_clear};
+pub use writes::clear_writes;

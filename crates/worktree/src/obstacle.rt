@@ -10,15 +10,14 @@ ghost use Rattle.seq_base.specs.World.{is_below};
 ghost use Rattle.stage_index.specs.Stages.{row_of};
 ghost use Rattle.stage_index.specs.Switching.{first_obstructed as first_obstructed_in, is_in_way, is_obstructed as is_obstructed_in, is_untracked as is_untracked_in};
 ghost use Rattle.std.specs.Prelude.{map as map_list};
-ghost use Rattle.worktree.specs.Causes.{HasReadCause};
+ghost use Rattle.seq_outside.specs.Seen.{Reads, store_cause};
 ghost use Rattle.worktree.specs.Folders.{is_file_before};
 
-use crate::fault::WorkFault;
 use crate::rewritten::{is_rewritten, is_tracked, is_untracked};
 use index_file::IndexEntry;
 use seq_base::{Bytes, Path};
-use seq_outside::Store;
-use std::alloc::{AllocError, Global};
+use seq_outside::{Store, StoreError};
+use std::alloc::Global;
 
 /// Whether an untracked file stands at the path.
 fn stands_at<S: Store>(
@@ -26,12 +25,11 @@ fn stands_at<S: Store>(
     store: &mut S,
     from: &[IndexEntry],
     path: &[u8],
-) -> Result<bool, WorkFault>
+) -> Result<bool, StoreError>
     requires order { IsInOrder from.now }
     requires path { IsStorePath path.now }
-    ensures told { S.told → IfOk result (λ is. is ≡ is_untracked_in from.now path.now && map.contains_key (S.content store.old) path.now) }
-    ensures same { S.told → S.content store.new ≡ S.content store.old }
-    ensures cause { HasReadCause result (S.faults store.old) (S.faults store.new) (S.blocked store.old) (S.blocked store.new) }
+    ensures told { S.told → IfOk result (λ is. is ≡ is_untracked_in from.now path.now && map.contains_key (S.seen store.old).content path.now) }
+    ensures reads { Reads S.told store_cause result (S.seen store.old) (S.seen store.new) }
 {
     if !is_untracked(from, path) {
         return Ok(false);
@@ -46,13 +44,12 @@ fn stands_before<S: Store>(
     from: &[IndexEntry],
     path: &[u8],
     n: usize,
-) -> Result<bool, WorkFault>
+) -> Result<bool, StoreError>
     requires order { IsInOrder from.now }
-    requires path { IsPath path.now }
+    requires path { IsStorePath path.now }
     requires within { n < length path.now }
-    ensures told { S.told → IfOk result (λ is. is ≡ is_file_before (S.content store.old) from.now path.now n) }
-    ensures same { S.told → S.content store.new ≡ S.content store.old }
-    ensures cause { HasReadCause result (S.faults store.old) (S.faults store.new) (S.blocked store.old) (S.blocked store.new) }
+    ensures told { S.told → IfOk result (λ is. is ≡ is_file_before (S.seen store.old).content from.now path.now n) }
+    ensures reads { Reads S.told store_cause result (S.seen store.old) (S.seen store.new) }
 {
     if path[n] != b'/' {
         return Ok(false);
@@ -66,12 +63,11 @@ fn stands_above<S: Store>(
     store: &mut S,
     from: &[IndexEntry],
     path: &[u8],
-) -> Result<bool, WorkFault>
+) -> Result<bool, StoreError>
     requires order { IsInOrder from.now }
-    requires path { IsPath path.now }
-    ensures told { S.told → IfOk result (λ is. is ≡ list_any (λ file. is_untracked_in from.now file && is_below file path.now) (map.keys (S.content store.old))) }
-    ensures same { S.told → S.content store.new ≡ S.content store.old }
-    ensures cause { HasReadCause result (S.faults store.old) (S.faults store.new) (S.blocked store.old) (S.blocked store.new) }
+    requires path { IsStorePath path.now }
+    ensures told { S.told → IfOk result (λ is. is ≡ list_any (λ file. is_untracked_in from.now file && is_below file path.now) (map.keys (S.seen store.old).content)) }
+    ensures reads { Reads S.told store_cause result (S.seen store.old) (S.seen store.new) }
 {
     let mut n = 0;
     while n < path.len() {
@@ -101,13 +97,12 @@ fn stands_below<S: Store>(
     store: &mut S,
     from: &[IndexEntry],
     path: &[u8],
-) -> Result<bool, WorkFault>
+) -> Result<bool, StoreError>
     requires order { IsInOrder from.now }
     requires path { IsPath path.now }
     requires store_path { IsStorePath path.now }
-    ensures told { S.told → IfOk result (λ is. is ≡ list_any (λ file. is_untracked_in from.now file && is_below path.now file) (map.keys (S.content store.old))) }
-    ensures same { S.told → S.content store.new ≡ S.content store.old }
-    ensures cause { HasReadCause result (S.faults store.old) (S.faults store.new) (S.blocked store.old) (S.blocked store.new) }
+    ensures told { S.told → IfOk result (λ is. is ≡ list_any (λ file. is_untracked_in from.now file && is_below path.now file) (map.keys (S.seen store.old).content)) }
+    ensures reads { Reads S.told store_cause result (S.seen store.old) (S.seen store.new) }
 {
     let files = store.list(alloc, path)?;
     Ok(has_untracked(from, &files))
@@ -119,11 +114,10 @@ fn has_obstacle<S: Store>(
     store: &mut S,
     from: &[IndexEntry],
     path: &Path,
-) -> Result<bool, WorkFault>
+) -> Result<bool, StoreError>
     requires { IsInOrder from.now }
-    ensures told { S.told → IfOk result (λ is. is ≡ list_any (λ file. is_untracked_in from.now file && is_in_way path.now file) (map.keys (S.content store.old))) }
-    ensures same { S.told → S.content store.new ≡ S.content store.old }
-    ensures cause { HasReadCause result (S.faults store.old) (S.faults store.new) (S.blocked store.old) (S.blocked store.new) }
+    ensures told { S.told → IfOk result (λ is. is ≡ list_any (λ file. is_untracked_in from.now file && is_in_way path.now file) (map.keys (S.seen store.old).content)) }
+    ensures reads { Reads S.told store_cause result (S.seen store.old) (S.seen store.new) }
 {
     let path = path.bytes();
     if stands_at(alloc, store, from, path)? {
@@ -142,22 +136,15 @@ fn is_obstructed<S: Store>(
     store: &mut S,
     from: &[IndexEntry],
     entry: &IndexEntry,
-) -> Result<bool, WorkFault>
+) -> Result<bool, StoreError>
     requires { IsInOrder from.now }
-    ensures told { S.told → IfOk result (λ is. is ≡ is_obstructed_in (S.content store.old) from.now (row_of entry.now)) }
-    ensures same { S.told → S.content store.new ≡ S.content store.old }
-    ensures cause { HasReadCause result (S.faults store.old) (S.faults store.new) (S.blocked store.old) (S.blocked store.new) }
+    ensures told { S.told → IfOk result (λ is. is ≡ is_obstructed_in (S.seen store.old).content from.now (row_of entry.now)) }
+    ensures reads { Reads S.told store_cause result (S.seen store.old) (S.seen store.new) }
 {
     if is_tracked(from, entry.path.bytes()) && !is_rewritten(from, entry) {
         return Ok(false);
     }
     has_obstacle(alloc, store, from, &entry.path)
-}
-
-fn copy_of(path: &Path) -> Result<Path, AllocError>
-    ensures { IfOk result (λ copy. copy ≡ path.now) }
-{
-    path.clone()
 }
 
 /// The least path of an entry in whose way an untracked file is.
@@ -166,17 +153,16 @@ pub(crate) fn first_obstructed<S: Store>(
     store: &mut S,
     from: &[IndexEntry],
     to: &[IndexEntry],
-) -> Result<Option<Path>, WorkFault>
+) -> Result<Option<Path>, StoreError>
     requires from { IsInOrder from.now }
     requires to { IsInOrder to.now }
-    ensures found { S.told → IfOk result (λ found. found ≡ first_obstructed_in (S.content store.old) from.now (map_list row_of to.now)) }
-    ensures same { S.told → S.content store.new ≡ S.content store.old }
-    ensures cause { HasReadCause result (S.faults store.old) (S.faults store.new) (S.blocked store.old) (S.blocked store.new) }
+    ensures found { S.told → IfOk result (λ found. found ≡ first_obstructed_in (S.seen store.old).content from.now (map_list row_of to.now)) }
+    ensures reads { Reads S.told store_cause result (S.seen store.old) (S.seen store.new) }
 {
     let mut rest = to;
     while let [entry, after @ ..] = rest {
         if is_obstructed(alloc, store, from, entry)? {
-            return Ok(Some(copy_of(&entry.path)?));
+            return Ok(Some(entry.path.copy()?));
         }
         rest = after;
     }

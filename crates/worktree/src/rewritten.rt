@@ -2,13 +2,13 @@
 
 ghost use Rattle.std.specs.Prelude.{◌≡◌, Some};
 ghost use Rattle.index_file.specs.Entries.{IsInOrder};
-ghost use Rattle.seq_base.specs.World.{is_below};
-ghost use Rattle.stage_index.specs.Changes.{is_gitlink as is_gitlink_mode, same_entry};
+ghost use Rattle.seq_base.specs.PathMaps.{same_entry};
+ghost use Rattle.stage_index.specs.Changes.{is_gitlink as is_gitlink_mode};
 ghost use Rattle.stage_index.specs.Stages.{merged_entry, row_of};
-ghost use Rattle.stage_index.specs.Switching.{is_kept as is_kept_in, is_rewritten as is_rewritten_in, is_tracked as is_tracked_in, is_untracked as is_untracked_in};
+ghost use Rattle.stage_index.specs.Switching.{is_kept as is_kept_in, is_rewritten as is_rewritten_in, is_submodule as is_submodule_entry, is_tracked as is_tracked_in, is_untracked as is_untracked_in, tracks_file as tracks_file_in};
 
 use index_file::IndexEntry;
-use seq_base::Mode;
+use seq_base::{Mode, lies_below};
 use stage_index::tracked;
 
 pub(crate) fn is_gitlink(mode: Mode) -> bool
@@ -55,16 +55,31 @@ pub(crate) fn is_tracked(from: &[IndexEntry], path: &[u8]) -> bool
     tracked(from, path).is_some()
 }
 
-fn lies_below(folder: &[u8], path: &[u8]) -> bool
-    ensures { result ≡ is_below folder.now path.now }
+/// Whether the entry is a submodule's, and merged.
+fn is_submodule(entry: &IndexEntry) -> bool
+    ensures { result ≡ is_submodule_entry (merged_entry (Some entry.now)) }
 {
-    path.starts_with(folder) && folder.len() < path.len() && path[folder.len()] == b'/'
+    if entry.stage != 0 {
+        return false;
+    }
+    is_gitlink(entry.mode)
 }
 
-/// Whether a file that stands there lies outside `.git`, and the index does not have it.
+/// Whether the index has the path, and no submodule there that is merged.
+fn tracks_file(from: &[IndexEntry], path: &[u8]) -> bool
+    requires { IsInOrder from.now }
+    ensures { result ≡ tracks_file_in from.now path.now }
+{
+    match tracked(from, path) {
+        Some(entry) => !is_submodule(entry),
+        None => false,
+    }
+}
+
+/// Whether a file that stands there lies outside `.git`, and the index does not track it.
 pub(crate) fn is_untracked(from: &[IndexEntry], path: &[u8]) -> bool
     requires { IsInOrder from.now }
     ensures { result ≡ is_untracked_in from.now path.now }
 {
-    !lies_below(b".git", path) && !is_tracked(from, path)
+    !lies_below(b".git", path) && !tracks_file(from, path)
 }

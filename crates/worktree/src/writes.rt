@@ -1,26 +1,24 @@
 //! The writes of a switch.
 
-ghost use Rattle.std.specs.Prelude.{◌≡◌, ◌<◌, ◌^◌, ◌++◌, ◌∷◌, [], IfOk, None, OnOk, codes, filter, is_none, length, map};
+ghost use Rattle.std.specs.List.{AllByRecursion};
+ghost use Rattle.std.specs.Prelude.{◌≡◌, ◌<◌, ◌^◌, ◌++◌, ◌∷◌, [], IfOk, OnOk, codes, filter, is_none, length, map};
 ghost use Rattle.index_file.specs.Entries.{IsInOrder, IsIndex};
 ghost use Rattle.index_file.specs.Spelling.{index_text as text_of_index};
 ghost use Rattle.seq_base.specs.PathMaps.{entry_at};
 ghost use Rattle.seq_base.specs.Paths.{IsPath};
-ghost use Rattle.seq_outside.specs.Keeping.{JoinsRepository};
-ghost use Rattle.seq_outside.specs.Writes.{HasStorePath, IsInPlace};
-ghost use Rattle.std.specs.List.{AllByRecursion};
+ghost use Rattle.seq_outside.specs.Halts.{Gives, halt_cause};
+ghost use Rattle.seq_outside.specs.Seen.{Reads};
+ghost use Rattle.seq_outside.specs.Writes.{HasStorePath};
 ghost use Rattle.stage_index.specs.Stages.{map_of, row_of};
-ghost use Rattle.stage_index.specs.Switching.{blob_writes, clear_writes as clear_writes_of, first_obstructed as first_obstructed_in, is_rewritten as is_rewritten_in, removals, switch_writes as writes_of};
-ghost use Rattle.worktree.specs.Blobs.{Appends, GivesWrites};
-ghost use Rattle.worktree.specs.Causes.{HasCause, HasReadCause};
-ghost use Rattle.worktree.specs.Placed.{ArePlaced, AreUnblocked};
+ghost use Rattle.stage_index.specs.Switching.{is_dropped as is_dropped_from, is_rewritten as is_rewritten_in, removals};
+ghost use Rattle.worktree.specs.Own.{AreOwn};
+ghost use Rattle.worktree.specs.Writes.{Appends, blob_writes, clear_writes as clear_writes_of};
 
 use crate::blob::read_blob;
-use crate::fault::WorkFault;
-use crate::obstacle::first_obstructed;
-use crate::rewritten::is_rewritten;
+use crate::rewritten::{is_gitlink, is_rewritten};
 use index_file::{IndexEntry, index_text};
 use seq_base::{Bytes, Path, PathMap};
-use seq_outside::{Store, Write};
+use seq_outside::{Halt, Lack, Store, Write};
 use stage_index::{from_map, tracked};
 use std::alloc::{AllocError, Global};
 
@@ -42,8 +40,16 @@ fn lacks(index: &[IndexEntry], path: &[u8]) -> bool
     }
 }
 
-#[tactic(auto, using(crate::proofs::Placing::placed_more))]
+/// Whether the entry's path is tracked no longer, and is no submodule's.
+fn is_dropped(entry: &IndexEntry, to: &[IndexEntry]) -> bool
+    requires { IsInOrder to.now }
+    ensures { result ≡ is_dropped_from (map_of to.now) entry.now }
+{
+    lacks(to, entry.path.bytes()) && !is_gitlink(entry.mode)
+}
+
 /// Removes the entry's path, if it is tracked no longer.
+#[tactic(auto, using(crate::proofs::Owning::own_more))]
 fn push_removal(
     alloc: Global,
     entry: &IndexEntry,
@@ -52,9 +58,9 @@ fn push_removal(
 ) -> Result<(), AllocError>
     requires { IsInOrder to.now }
     ensures pushed { OnOk result (writes.new.items ≡ writes.old.items ++ removals (entry.now ∷ []) (map_of to.now)) }
-    ensures placed { OnOk result (ArePlaced writes.old.items → ArePlaced writes.new.items) }
+    ensures own { OnOk result (AreOwn writes.old.items → AreOwn writes.new.items) }
 {
-    if !lacks(to, entry.path.bytes()) {
+    if !is_dropped(entry, to) {
         return Ok(());
     }
     let path = bytes_of(alloc, &entry.path)?;
@@ -70,7 +76,7 @@ fn push_removals(
 ) -> Result<(), AllocError>
     requires { IsInOrder to.now }
     ensures pushed { OnOk result (writes.new.items ≡ writes.old.items ++ removals from.now (map_of to.now)) }
-    ensures placed { OnOk result (ArePlaced writes.old.items → ArePlaced writes.new.items) }
+    ensures own { OnOk result (AreOwn writes.old.items → AreOwn writes.new.items) }
 {
     let mut rest = from;
     while let [entry, after @ ..] = rest {
@@ -89,20 +95,19 @@ fn index_write(alloc: Global, to: &[IndexEntry]) -> Result<Write, AllocError>
     Ok(Write::Put { path, bytes })
 }
 
-#[tactic(auto, using(crate::proofs::Placing::placed_more))]
 /// Puts the entry's blob, if it is written.
+#[tactic(auto, using(crate::proofs::Owning::own_more))]
 fn push_blob<S: Store>(
     alloc: Global,
     store: &mut S,
     from: &[IndexEntry],
     entry: &IndexEntry,
     writes: &mut Vec<Write>,
-) -> Result<(), WorkFault>
+) -> Result<(), Halt<Lack>>
     requires { IsInOrder from.now }
-    ensures told { S.told → Appends result writes.old.items writes.new.items (S.content store.old) (blob_writes (S.content store.old) (filter (is_rewritten_in from.now) (row_of entry.now ∷ []))) }
-    ensures placed { OnOk result (ArePlaced writes.old.items → ArePlaced writes.new.items) }
-    ensures same { S.told → S.content store.new ≡ S.content store.old }
-    ensures cause { HasCause result (S.faults store.old) (S.faults store.new) (S.blocked store.old) (S.blocked store.new) }
+    ensures appends { S.told → Appends result writes.old.items writes.new.items (blob_writes (S.seen store.old).content (filter (is_rewritten_in from.now) (row_of entry.now ∷ []))) }
+    ensures own { OnOk result (AreOwn writes.old.items → AreOwn writes.new.items) }
+    ensures reads { Reads S.told halt_cause result (S.seen store.old) (S.seen store.new) }
 {
     if !is_rewritten(from, entry) {
         return Ok(());
@@ -120,12 +125,11 @@ fn push_blobs<S: Store>(
     from: &[IndexEntry],
     to: &[IndexEntry],
     writes: &mut Vec<Write>,
-) -> Result<(), WorkFault>
+) -> Result<(), Halt<Lack>>
     requires { IsInOrder from.now }
-    ensures told { S.told → Appends result writes.old.items writes.new.items (S.content store.old) (blob_writes (S.content store.old) (filter (is_rewritten_in from.now) (map row_of to.now))) }
-    ensures placed { OnOk result (ArePlaced writes.old.items → ArePlaced writes.new.items) }
-    ensures same { S.told → S.content store.new ≡ S.content store.old }
-    ensures cause { HasCause result (S.faults store.old) (S.faults store.new) (S.blocked store.old) (S.blocked store.new) }
+    ensures appends { S.told → Appends result writes.old.items writes.new.items (blob_writes (S.seen store.old).content (filter (is_rewritten_in from.now) (map row_of to.now))) }
+    ensures own { OnOk result (AreOwn writes.old.items → AreOwn writes.new.items) }
+    ensures reads { Reads S.told halt_cause result (S.seen store.old) (S.seen store.new) }
 {
     let mut rest = to;
     while let [entry, after @ ..] = rest {
@@ -135,45 +139,23 @@ fn push_blobs<S: Store>(
     Ok(())
 }
 
-/// The least path of the map that would be written where an untracked file is in its way: at the path, in the place of one of its
-/// folders, or below it (git-read-tree(1), "Two Tree Merge").
-pub fn obstructed_path<S: Store>(
-    alloc: Global,
-    store: &mut S,
-    from: &[IndexEntry],
-    to: &PathMap,
-) -> Result<Option<Path>, WorkFault>
-    requires order { IsInOrder from.now }
-    requires few { length to.now < 2 ^ 32 }
-    ensures found { S.told → IfOk result (λ found. found ≡ first_obstructed_in (S.content store.old) from.now to.now) }
-    ensures same { S.told → S.content store.new ≡ S.content store.old }
-    ensures cause { HasReadCause result (S.faults store.old) (S.faults store.new) (S.blocked store.old) (S.blocked store.new) }
-{
-    let index = from_map(alloc, to)?;
-    first_obstructed(alloc, store, from, &index)
-}
-
-/// What switches index and files from what an index tracks to a map, where `obstructed_path` is None (git-read-tree(1), "Two Tree
-/// Merge"), as writes that are not made yet: the removals, then the index, then the files, in path order. Refused are BadObject or
-/// TooLarge for the first blob that cannot be read.
+/// What switches index and files from what an index tracks to a map, where no untracked file is in the way (git-read-tree(1), "Two
+/// Tree Merge"), as writes that are not made yet: the removals, then the index, then the files, in path order. All blobs are read.
+/// The first that is missing, damaged or of another kind is Object, and one that is too large Limit.
 pub fn clear_writes<S: Store>(
     alloc: Global,
     store: &mut S,
     from: &[IndexEntry],
     to: &PathMap,
-) -> Result<Vec<Write>, WorkFault>
+) -> Result<Vec<Write>, Halt<Lack>>
     requires order { IsInOrder from.now }
     requires few { length to.now < 2 ^ 32 }
-    ensures gives { S.told → GivesWrites (λ writes. writes.items) result (S.content store.old) (clear_writes_of (S.content store.old) from.now to.now) }
-    ensures placed { IfOk result (λ writes. ArePlaced writes.items) }
+    ensures gives { S.told → Gives (λ writes. writes.items) result (clear_writes_of (S.seen store.old).content from.now to.now) }
+    ensures own { IfOk result (λ writes. AreOwn writes.items) }
 
-    // They follow from `placed`, and a call of `write_all` asks for them.
+    // It follows from `own`, and a call of `make_writes` asks for it.
     ensures store_paths { IfOk result (λ writes. AllByRecursion HasStorePath writes.items) }
-    ensures in_place { IfOk result (λ writes. AllByRecursion IsInPlace writes.items) }
-    ensures free { S.told → first_obstructed_in (S.content store.old) from.now to.now ≡ None → IfOk result (λ writes. AreUnblocked (S.content store.old) writes.items) }
-    ensures joins { S.told → first_obstructed_in (S.content store.old) from.now to.now ≡ None → IfOk result (λ writes. JoinsRepository (S.content store.old) writes.items) }
-    ensures same { S.told → S.content store.new ≡ S.content store.old }
-    ensures cause { HasCause result (S.faults store.old) (S.faults store.new) (S.blocked store.old) (S.blocked store.new) }
+    ensures reads { Reads S.told halt_cause result (S.seen store.old) (S.seen store.new) }
 {
     let _length = to.len();
     let index = from_map(alloc, to)?;
@@ -182,33 +164,4 @@ pub fn clear_writes<S: Store>(
     writes.push(index_write(alloc, &index)?)?;
     push_blobs(alloc, store, from, &index, &mut writes)?;
     Ok(writes)
-}
-
-/// What switches index and files from what an index tracks to a map (git-read-tree(1), "Two Tree Merge"), as writes that are
-/// not made yet: the removals, then the index, then the files, in path order. Refused are WouldOverwrite for the least path
-/// that would be written where an untracked file is in its way, and then BadObject or TooLarge for the first blob that cannot
-/// be read.
-pub fn switch_writes<S: Store>(
-    alloc: Global,
-    store: &mut S,
-    from: &[IndexEntry],
-    to: &PathMap,
-) -> Result<Vec<Write>, WorkFault>
-    requires order { IsInOrder from.now }
-    requires few { length to.now < 2 ^ 32 }
-    ensures gives { S.told → GivesWrites (λ writes. writes.items) result (S.content store.old) (writes_of (S.content store.old) from.now to.now) }
-    ensures placed { IfOk result (λ writes. ArePlaced writes.items) }
-
-    // They follow from `placed`, and a call of `write_all` asks for them.
-    ensures store_paths { IfOk result (λ writes. AllByRecursion HasStorePath writes.items) }
-    ensures in_place { IfOk result (λ writes. AllByRecursion IsInPlace writes.items) }
-    ensures free { S.told → IfOk result (λ writes. AreUnblocked (S.content store.old) writes.items) }
-    ensures joins { S.told → IfOk result (λ writes. JoinsRepository (S.content store.old) writes.items) }
-    ensures same { S.told → S.content store.new ≡ S.content store.old }
-    ensures cause { HasCause result (S.faults store.old) (S.faults store.new) (S.blocked store.old) (S.blocked store.new) }
-{
-    if let Some(path) = obstructed_path(alloc, store, from, to)? {
-        return Err(WorkFault::WouldOverwrite { path });
-    }
-    clear_writes(alloc, store, from, to)
 }

@@ -122,6 +122,7 @@ fn follows_no_link(rt: HostRuntime) -> Result<(), Fail> {
     fs::rename(&rt, ".git", "away/.git")?;
     fs::write(&rt, "away/.git/HEAD", "x")?;
     symlink(&rt, "away/.git", ".git")?;
+    store.forget_folders();
     assert!(rt; is_missing(alloc, &mut store, b".git/HEAD")?);
     assert_eq!(rt;
         store.put(alloc, b".git/HEAD", b"y"),
@@ -151,6 +152,25 @@ fn makes_way_for_no_file(rt: HostRuntime) -> Result<(), Fail> {
         symlink_metadata(&rt, "a/b")?.permissions().mode() & 0o777,
         0o750
     );
+    leave(&rt, folder.as_str())?;
+    Ok(())
+}
+
+#[test]
+fn forgets_folders(rt: HostRuntime) -> Result<(), Fail> {
+    let folder = go_to_new_folder(&rt)?;
+    let (alloc, mut store) = (rt.alloc(), DiskStore::new(&rt));
+    store.put(alloc, b"away/b/c", b"x")?;
+    store.put(alloc, b"a/b/c", b"y")?;
+    assert!(rt; holds(alloc, &mut store, b"a/b/c", b"y")?);
+    assert!(rt; store.remove(alloc, b"a/b/c")?);
+    symlink(&rt, "away", "a")?;
+    assert!(rt; is_missing(alloc, &mut store, b"a/b/c")?);
+    assert!(rt; holds(alloc, &mut store, b"away/b/c", b"x")?);
+    fs::rename(&rt, "away", "moved")?;
+    symlink(&rt, "moved", "away")?;
+    store.forget_folders();
+    assert!(rt; is_missing(alloc, &mut store, b"away/b/c")?);
     leave(&rt, folder.as_str())?;
     Ok(())
 }

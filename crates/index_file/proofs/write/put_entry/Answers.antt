@@ -1,6 +1,6 @@
-use Rattle.std.proofs.Common.{◌≡◌, ℕ, ◌+◌, ◌*◌, ◌++◌, length, ap, ◌∙◌, arith}
+use Rattle.std.proofs.Common.{◌≡◌, ◌+◌, ◌*◌, ◌++◌, length, ap, ◌∙◌, arith}
 use Rattle.std.specs.Int.{w16, w32, to_be_bytes}
-use Rattle.index_file.specs.Spelling.{flags, padding}
+use Rattle.index_file.specs.Spelling.{flags}
 use Rattle.index_file.proofs.Written.{seven_pieces, row_by}
 use Rattle.index_file.proofs.write.put_entry.Goals as goal
 
@@ -18,4 +18,4 @@ returns-clause-text c =
     (rw c.bytes-path.ensures.same at c.put_zeros-3.ensures)
 
 pub returns-clause-row : goal.returns-clause-row
-returns-clause-row c = row_by c.put_zeros-3.result c.args.entry.now c.requires c.bytes-path.ensures.path c.bytes.ensures.twenty c.bytes.ensures.bytes
+returns-clause-row c = row_by c.put_zeros-3.result c.args.entry.now c.requires c.bytes-path.ensures.path c.bytes.ensures.width c.bytes.ensures.bytes

@@ -1,39 +1,42 @@
-use Rattle.std.proofs.Common.{◌≡◌, ◌⊎◌, List, None, Ok, map, sym, ap, subst, ◌∙◌}
-use Rattle.std.specs.FinMap as held
-use Rattle.seq_base.specs.World.{World}
-use Rattle.seq_outside.specs.Writes.{written}
-use Rattle.seq_outside.specs.declared.write.Write.{Write}
-use Rattle.object_text.specs.Store.{Put, put_all}
-use Rattle.object_text.specs.TreeMaps.{put_trees, tree_object, trees_of}
-use Rattle.path_trees.proofs.Puts.{all_put}
+use Rattle.std.proofs.Common.{◌≡◌, true, false, Ok, sym, subst, ◌∙◌}
+use Rattle.std.specs.Result.{IfOk}
+use Rattle.seq_base.specs.PathMaps.{IsPathMap}
+use Rattle.object_text.specs.TreeMaps.{is_too_deep, map_at, root_of}
+use Rattle.path_trees.specs.Puts.{HasPut, folder_put}
+use Rattle.path_trees.specs.Rows.{Rows}
+use Rattle.path_trees.proofs.PathNames.{cut_none, goes_at_root}
+use Rattle.path_trees.proofs.ReadBack.{objects_put, reads_back, shallow_put, too_deep}
 use Rattle.path_trees.proofs.write.write_map.Goals as goal
-use Rattle.path_trees.proofs.write.write_map.Goals.{In_ok-root}
+use Rattle.path_trees.proofs.write.write_map.Goals.{After-put_folder}
 
--- the world once the draft is made is the one with the trees
-planned : (g : _) (c : In_ok-root g) → g.S.Store.told → put_all (g.S.Store.content c.args.store.now) (map tree_object (trees_of c.args.map.now)) ≡ record { world = written (g.S.Store.content c.args.store.now) c.draft_map.new.draft; collision = None }
-planned g c told =
-    let w = g.S.Store.content c.args.store.now in
-    all_put w (trees_of c.args.map.now) (written w c.draft_map.new.draft)
-    (subst (λ (ws : List Write). put_trees (written w ws) (trees_of c.args.map.now) ≡ Ok (written w c.draft_map.new.draft)) c.new-draft.ensures.none (c.in_ok-root.ensures.drafted told).1)
+-- the trees of the root were put
+put : (g : _) (c : After-put_folder g) → g.S.Store.told → HasPut c.put_folder.result (folder_put c.args.map.now (g.S.Store.seen c.args.store.now).content) (g.S.Store.seen c.put_folder.new.store).content
+put g c told =
+    subst (λ (rows : Rows). HasPut c.put_folder.result (folder_put rows (g.S.Store.seen c.args.store.now).content) (g.S.Store.seen c.put_folder.new.store).content) (cut_none c.entries-rows.result.now ∙ c.entries-rows.ensures.entries) (c.put_folder.ensures.put told)
+
+pub returns-then-is_too_deep-clause-trees : goal.returns-then-is_too_deep-clause-trees
+returns-then-is_too_deep-clause-trees g c told = too_deep c.args.map.now _ (subst (λ (rows : Rows). is_too_deep rows ≡ true) c.entries-rows.ensures.entries (sym c.is_too_deep.ensures.deep ∙ c.if-is_too_deep.true))
+
+pub put_folder-requires : goal.put_folder-requires
+put_folder-requires g c = goes_at_root c.entries-rows.result.now (c.is_too_deep.ensures.paths c.if-is_too_deep.false) (subst IsPathMap (sym c.entries-rows.ensures.entries) c.entries-rows.ensures.map)
+
+pub returns-clause-trees : goal.returns-clause-trees
+returns-clause-trees g c told =
+    let low = subst (λ (rows : Rows). is_too_deep rows ≡ false) c.entries-rows.ensures.entries (sym c.is_too_deep.ensures.deep ∙ c.if-is_too_deep.false) in
+    rw (shallow_put c.args.map.now (g.S.Store.seen c.args.store.now).content low) (put g (goal.at.returns-clause-trees g c).After-put_folder told)
+
+pub returns-clause-root : goal.returns-clause-root
+returns-clause-root g c = subst (λ (rows : Rows). IfOk c.put_folder.result (λ id. id ≡ root_of rows)) (cut_none c.entries-rows.result.now ∙ c.entries-rows.ensures.entries) c.put_folder.ensures.root
 
 pub returns-clause-objects : goal.returns-clause-objects
-returns-clause-objects g c told =
-    let draft = c.draft_map.new.draft in
-    planned g (goal.at.returns-clause-objects g c).In_ok-root told
-    ∙ ap (λ (v : World). record { world = v; collision = None }) (sym (c.in_ok-make.ensures.done told ∙ ap (λ (v : World). written v draft) (c.in_ok-root.ensures.same told)))
+returns-clause-objects g c told = objects_put c.args.map.now (g.S.Store.seen c.args.store.now).content (g.S.Store.seen c.put_folder.new.store).content c.put_folder.result (put g (goal.at.returns-clause-objects g c).After-put_folder told)
 
-pub returns-in_err-make-clause-between : goal.returns-in_err-make-clause-between
-returns-in_err-make-clause-between g c told path =
-    let w = g.S.Store.content c.args.store.now in
-    let new = g.S.Store.content c.make.new.store in
-    let draft = c.draft_map.new.draft in
-    let each = subst (λ (v : World). (held.get new path ≡ held.get v path) ⊎ (held.get new path ≡ held.get (written v draft) path)) (c.in_ok-root.ensures.same told) (c.in_err-make.ensures.between told path) in
-    subst (λ (v : World). (held.get new path ≡ held.get w path) ⊎ (held.get new path ≡ held.get v path)) (sym (ap (λ (p : Put). p.world) (planned g (goal.at.returns-in_err-make-clause-between g c).In_ok-root told))) each
-
-pub returns-clause-between : goal.returns-clause-between
-returns-clause-between g c told path =
-    let w = g.S.Store.content c.args.store.now in
-    let new = g.S.Store.content c.make.new.store in
-    let draft = c.draft_map.new.draft in
-    let each = subst (λ (v : World). (held.get new path ≡ held.get v path) ⊎ (held.get new path ≡ held.get (written v draft) path)) (c.in_ok-root.ensures.same told) (c.in_ok-make.ensures.between told path) in
-    subst (λ (v : World). (held.get new path ≡ held.get w path) ⊎ (held.get new path ≡ held.get v path)) (sym (ap (λ (p : Put). p.world) (planned g (goal.at.returns-clause-between g c).In_ok-root told))) each
+pub returns-clause-reads : goal.returns-clause-reads
+returns-clause-reads g c told =
+    let rows = c.entries-rows.result.now in
+    let to = sym c.entries-rows.ensures.entries in
+    let now = (g.S.Store.seen c.put_folder.new.store).content in
+    let root = subst (λ (es : Rows). IfOk c.put_folder.result (λ id. id ≡ root_of es)) (cut_none rows) c.put_folder.ensures.root in
+    let was = subst (λ (es : Rows). HasPut c.put_folder.result (folder_put es (g.S.Store.seen c.args.store.now).content) now) (cut_none rows) (c.put_folder.ensures.put told) in
+    let back = reads_back rows (g.S.Store.seen c.args.store.now).content now c.put_folder.result (subst IsPathMap to c.entries-rows.ensures.map) (c.is_too_deep.ensures.paths c.if-is_too_deep.false) c.put_folder.ensures.ids (sym c.is_too_deep.ensures.deep ∙ c.if-is_too_deep.false) root was in
+    subst (λ (es : Rows). IfOk c.put_folder.result (λ root. map_at now root ≡ Ok es)) c.entries-rows.ensures.entries back

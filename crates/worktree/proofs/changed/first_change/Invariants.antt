@@ -1,16 +1,17 @@
-use Rattle.std.proofs.Common.{◌≡◌, ◌≤◌, length}
+use Rattle.std.proofs.Common.{◌≡◌, length}
 use Rattle.index_file.specs.Entries.{IsInOrder}
 use Rattle.stage_index.specs.Changes.{is_changed}
 use Rattle.stage_index.proofs.FirstPassing.{Rest}
+use Rattle.seq_outside.specs.Seen.{HasReadCause}
+use Rattle.seq_outside.specs.Seen.Cause.{ByNone}
 use Rattle.worktree.proofs.changed.first_change.Given as goal
 
 abbrev pub invariant-loop-rest : goal.invariant-loop-rest
 invariant-loop-rest g l = record {
-  rest : g.S.Store.told → Rest (is_changed (g.S.Store.content l.fn.store)) l.index l.rest;
-  same : g.S.Store.told → g.S.Store.content l.store ≡ g.S.Store.content l.fn.store;
+  rest : g.S.Store.told → Rest (is_changed (g.S.Store.seen l.fn.store).content) l.index l.rest;
+  same : g.S.Store.told → (g.S.Store.seen l.store).content ≡ (g.S.Store.seen l.fn.store).content;
   order : IsInOrder l.rest;
-  faults : g.S.Store.faults l.store ≡ g.S.Store.faults l.fn.store;
-  blocked : g.S.Store.blocked l.fn.store ≤ g.S.Store.blocked l.store;
+  cause : HasReadCause g.S.Store.told ByNone (g.S.Store.seen l.fn.store) (g.S.Store.seen l.store);
 }
 
 abbrev pub decreases-loop-rest : goal.decreases-loop-rest

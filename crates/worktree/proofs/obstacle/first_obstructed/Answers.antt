@@ -10,8 +10,8 @@ returns-then-branch-clause-found g c told =
     let some : 0 < length c.loop-rest.rest.now = omega arith in
     let e = c.entry-item.result in
     let is = ap (λ (w : World). is_obstructed w c.args.from.now (row_of e)) (sym (c.loop-rest.invariant.same told)) ∙ sym (c.in_ok-is_obstructed.ensures.told told) ∙ c.if-branch.true in
-    ap Some c.in_ok-copy_of.ensures
-    ∙ passes_at (λ e. is_obstructed (g.S.Store.content c.args.store.now) c.args.from.now (row_of e)) c.args.to.now c.loop-rest.rest.now e (c.loop-rest.invariant.rest told) c.loop-rest.invariant.order some c.entry-item.is is
+    ap Some c.in_ok-copy.ensures
+    ∙ passes_at (λ e. is_obstructed (g.S.Store.seen c.args.store.now).content c.args.from.now (row_of e)) c.args.to.now c.loop-rest.rest.now e (c.loop-rest.invariant.rest told) c.loop-rest.invariant.order some c.entry-item.is is
     ∙ obstructed_is _ _ _
 
 pub loop-rest-preserved : goal.loop-rest-preserved
@@ -21,12 +21,11 @@ loop-rest-preserved g c =
     record {
       rest = λ told.
           let is = ap (λ (w : World). is_obstructed w c.args.from.now (row_of e)) (sym (c.loop-rest.invariant.same told)) ∙ sym (c.in_ok-is_obstructed.ensures.told told) ∙ c.if-branch.false in
-          fails_at (λ e. is_obstructed (g.S.Store.content c.args.store.now) c.args.from.now (row_of e)) c.args.to.now c.loop-rest.rest.now e (c.loop-rest.invariant.rest told) some c.entry-item.is is;
-      same = λ told. c.in_ok-is_obstructed.ensures.same told ∙ c.loop-rest.invariant.same told;
+          fails_at (λ e. is_obstructed (g.S.Store.seen c.args.store.now).content c.args.from.now (row_of e)) c.args.to.now c.loop-rest.rest.now e (c.loop-rest.invariant.rest told) some c.entry-item.is is;
+      same = λ told. c.in_ok-is_obstructed.ensures.reads.0 told ∙ c.loop-rest.invariant.same told;
       order = order_at c.loop-rest.rest.now e c.loop-rest.invariant.order some c.entry-item.is;
-      faults = search rules;
-      blocked = search rules;
+      cause = search rules;
     }
 
 pub returns-clause-found : goal.returns-clause-found
-returns-clause-found g c told = none_at (λ e. is_obstructed (g.S.Store.content c.args.store.now) c.args.from.now (row_of e)) c.args.to.now c.loop-rest.rest.now (c.loop-rest.invariant.rest told) (omega arith) ∙ obstructed_is _ _ _
+returns-clause-found g c told = none_at (λ e. is_obstructed (g.S.Store.seen c.args.store.now).content c.args.from.now (row_of e)) c.args.to.now c.loop-rest.rest.now (c.loop-rest.invariant.rest told) (omega arith) ∙ obstructed_is _ _ _

@@ -14,9 +14,8 @@ loop-n-preserved g c = record {
   none = λ told.
       let is = ap (λ (w : World). is_file_before w c.args.from.now c.args.path.now c.loop-n.n) (sym (c.loop-n.invariant.same told)) ∙ sym (c.in_ok-stands_before.ensures.told told) ∙ c.if-branch.false in
       above_more _ c.args.from.now c.args.path.now c.loop-n.n is (c.loop-n.invariant.none told);
-  same = λ told. c.in_ok-stands_before.ensures.same told ∙ c.loop-n.invariant.same told;
-  faults = search rules;
-  blocked = search rules;
+  same = λ told. c.in_ok-stands_before.ensures.reads.0 told ∙ c.loop-n.invariant.same told;
+  cause = search rules;
 }
 
 pub returns-clause-told : goal.returns-clause-told

@@ -1,4 +1,4 @@
-use Rattle.worktree.proofs.Obstacles.{front_is_store_path}
+use Rattle.seq_outside.proofs.Blocking.{front_is_store_path}
 use Rattle.worktree.proofs.obstacle.stands_before.Goals as goal
 
 pub stands_at-requires-clause-path : goal.stands_at-requires-clause-path

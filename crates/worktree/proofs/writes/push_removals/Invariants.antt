@@ -1,13 +1,13 @@
 use Rattle.std.proofs.Common.{◌≡◌, ◌++◌, length}
 use Rattle.stage_index.specs.Stages.{map_of}
 use Rattle.stage_index.specs.Switching.{removals}
-use Rattle.worktree.specs.Placed.{ArePlaced}
+use Rattle.worktree.specs.Own.{AreOwn}
 use Rattle.worktree.proofs.writes.push_removals.Given as goal
 
 abbrev pub invariant-loop-rest : goal.invariant-loop-rest
 invariant-loop-rest l = record {
   made : l.writes.items ++ removals l.rest (map_of l.to) ≡ l.fn.writes.items ++ removals l.fn.from (map_of l.to);
-  placed : ArePlaced l.fn.writes.items → ArePlaced l.writes.items;
+  own : AreOwn l.fn.writes.items → AreOwn l.writes.items;
 }
 
 abbrev pub decreases-loop-rest : goal.decreases-loop-rest

@@ -1,0 +1,6 @@
+pub mod Ids
+pub mod Least
+pub mod Idents
+pub mod Lines
+pub mod Owning
+pub mod Repositories

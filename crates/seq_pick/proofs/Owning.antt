@@ -1,0 +1,43 @@
+-- Which files the steps of a pick change.
+use Rattle.std.proofs.Common.{◌≡◌, inl, inr, Bool, true, false, refl, ap, ◌∙◌}
+use Rattle.std.specs.FinMap as map
+use Rattle.std.specs.Ordering.{eq_by_cmp}
+use Rattle.std.proofs.lemmas.Bool.{false_from_ne_true}
+use Rattle.objects.specs.Named.{is_object_place}
+use Rattle.ref_store.specs.Moves.{IsElsewhere}
+use Rattle.ref_text.specs.Refs.{head_name, log_path, ref_path}
+use Rattle.seq_base.specs.RefNames.{IsRefName}
+use Rattle.seq_base.specs.Words.{Name, Path}
+use Rattle.seq_base.specs.World.{World, path_cmp}
+use Rattle.seq_base.proofs.Shape.{same_path}
+use Rattle.seq_model.specs.Changes.{Changes, MayChange, IsObject, IsRef, IsIndex, IsMessage, IsInWorktree}
+use Rattle.seq_model.specs.Making.{message_path}
+use Rattle.worktree.specs.Own.{IsOwn}
+
+pub owned_both : (old mid new : World) → Changes old mid → Changes mid new → Changes old new
+owned_both old mid new first second = record { others = λ path not_own. second.others path not_own ∙ first.others path not_own }
+
+pub owned_none : (old new : World) → new ≡ old → Changes old new
+owned_none old new same = record { others = λ path not_own. ap (λ (w : World). map.get w path) same }
+
+pub objects_owned : (old new : World) → ((path : Path) → is_object_place path ≡ false → map.get new path ≡ map.get old path) → Changes old new
+objects_owned old new elsewhere = record { others = λ path not_own. elsewhere path (false_from_ne_true (is_object_place path) (λ here. not_own (IsObject here))) }
+
+pub message_owned : (old new : World) → ((path : Path) → eq_by_cmp path_cmp path message_path ≡ false → map.get new path ≡ map.get old path) → Changes old new
+message_owned old new elsewhere = record { others = λ path not_own. elsewhere path (false_from_ne_true (eq_by_cmp path_cmp path message_path) (λ here. not_own (IsMessage (same_path path message_path here)))) }
+
+pub switch_owned : (old new : World) → ((path : Path) → (IsOwn path → ⊥) → map.get new path ≡ map.get old path) → Changes old new
+switch_owned old new elsewhere = record { others = λ path not_own. elsewhere path (other path not_own) }
+  where
+    other : (path : Path) → (MayChange path → ⊥) → IsOwn path → ⊥
+    other path not_own (inl index) = not_own (IsIndex index)
+    other path not_own (inr is) = not_own (IsInWorktree is)
+
+pub branch_owned : (branch : Name) → IsRefName branch → (old new : World) → ((path : Path) → IsElsewhere branch path → map.get new path ≡ map.get old path) → Changes old new
+branch_owned branch name old new elsewhere = record {
+  others = λ path not_own. elsewhere path (record {
+    ref = false_from_ne_true (eq_by_cmp path_cmp path (ref_path branch)) (λ here. not_own (IsRef (branch, name, inl (same_path path (ref_path branch) here))));
+    log = false_from_ne_true (eq_by_cmp path_cmp path (log_path branch)) (λ here. not_own (IsRef (branch, name, inr (same_path path (log_path branch) here))));
+    head = false_from_ne_true (eq_by_cmp path_cmp path (log_path head_name)) (λ here. not_own (IsRef (head_name, refl, inr (same_path path (log_path head_name) here))));
+  });
+}

@@ -1,0 +1,4 @@
+pub mod Halts
+pub mod Merging
+pub mod Finding
+pub mod Preparing

@@ -1,0 +1,59 @@
+//! Why a step of a pick gives no value.
+
+ghost use Rattle.std.specs.Prelude.{◌≡◌};
+ghost use Rattle.seq_model.specs.Refusing.{denied_file as denied_file_of, denied_git as denied_git_of};
+ghost use Rattle.seq_pick.specs.Halts.{told_by};
+
+use seq_model::{Denial, Refusal};
+use seq_outside::{Halt, Lack};
+
+/// The halt of a refusal.
+pub fn refused(refusal: Refusal) -> Halt<Denial>
+    ensures { result ≡ Halt.Stops (Denial.Refused refusal) }
+{
+    Halt::Stops(Denial::Refused(refusal))
+}
+
+fn denied_file(lack: Lack) -> Denial
+    ensures { result ≡ denied_file_of lack }
+{
+    match lack {
+        Lack::Object { id } => Denial::Refused(Refusal::BadObject { id }),
+        Lack::Limit { what, number } => Denial::Limit { what, number },
+        Lack::Way { path } => Denial::Refused(Refusal::WouldOverwrite { path }),
+        Lack::Place { id } => Denial::Refused(Refusal::BadObject { id }),
+    }
+}
+
+fn denied_git(lack: Lack) -> Denial
+    ensures { result ≡ denied_git_of lack }
+{
+    match lack {
+        Lack::Object { id } => Denial::Refused(Refusal::BadObject { id }),
+        Lack::Limit { what, number } => Denial::Limit { what, number },
+        Lack::Way { .. } => Denial::Refused(Refusal::NotBuilt),
+        Lack::Place { .. } => Denial::Refused(Refusal::NotBuilt),
+    }
+}
+
+/// What objects that are read, and files of the worktree that are written, lack.
+pub fn file_halt(halt: Halt<Lack>) -> Halt<Denial>
+    ensures { result ≡ told_by denied_file_of halt }
+{
+    match halt {
+        Halt::Stops(lack) => Halt::Stops(denied_file(lack)),
+        Halt::Fault => Halt::Fault,
+        Halt::Memory => Halt::Memory,
+    }
+}
+
+/// What files of `.git` that are written lack.
+pub fn git_halt(halt: Halt<Lack>) -> Halt<Denial>
+    ensures { result ≡ told_by denied_git_of halt }
+{
+    match halt {
+        Halt::Stops(lack) => Halt::Stops(denied_git(lack)),
+        Halt::Fault => Halt::Fault,
+        Halt::Memory => Halt::Memory,
+    }
+}

@@ -1,0 +1,88 @@
+//! The index.
+
+ghost use Rattle.std.specs.Prelude.{◌≡◌, IfOk, IsErrOf, not};
+ghost use Rattle.std.specs.List.{find};
+ghost use Rattle.std.specs.Option.{option_map};
+ghost use Rattle.index_file.specs.Entries.{IsInOrder};
+ghost use Rattle.index_file.specs.Index.{index_at};
+ghost use Rattle.index_file.specs.Reading.{index_of};
+ghost use Rattle.seq_model.specs.Pick.{index_named, or_bad_index, unmerged as unmerged_of};
+ghost use Rattle.seq_model.specs.Refusing.{refuse_found};
+ghost use Rattle.seq_outside.specs.Seen.{Reads};
+ghost use Rattle.seq_outside.specs.Halts.{Gives, halt_cause};
+ghost use Rattle.stage_index.specs.Stages.{is_merged};
+
+use crate::halt::refused;
+use index_file::{IndexEntry, IndexFault, parse_index};
+use seq_base::Bytes;
+use seq_model::{Denial, LimitWhat, Refusal};
+use seq_outside::{Halt, Store};
+use std::alloc::Global;
+
+/// The most entries that an index may have.
+pub const INDEX_LIMIT: usize = 1_048_576;
+
+/// The entries that the text of an index spells.
+fn entries_in(alloc: Global, text: &[u8]) -> Result<Vec<IndexEntry>, Halt<Denial>>
+    ensures gives { Gives (λ v. v.items) result (or_bad_index (index_of text.now)) }
+    ensures order { IfOk result (λ v. IsInOrder v.items) }
+    ensures no_fault { IsErrOf result Halt.Fault → ⊥ }
+{
+    match parse_index(alloc, text) {
+        Ok(entries) => Ok(entries),
+        Err(IndexFault::Memory) => Err(Halt::Memory),
+        Err(fault) => Err(refused(Refusal::BadIndex { fault })),
+    }
+}
+
+/// The entries of the index file, of which a missing one has none.
+fn entries_of<S: Store>(alloc: Global, store: &mut S) -> Result<Vec<IndexEntry>, Halt<Denial>>
+    ensures gives { S.told → Gives (λ v. v.items) result (or_bad_index (index_at (S.seen store.old).content)) }
+    ensures order { IfOk result (λ v. IsInOrder v.items) }
+    ensures reads { Reads S.told halt_cause result (S.seen store.old) (S.seen store.new) }
+{
+    match store.get(alloc, b".git/index")? {
+        Some(text) => entries_in(alloc, &text),
+        None => Ok(Vec::new(alloc)),
+    }
+}
+
+/// The entries of the index.
+#[tactic(auto, unfolding(seq_model::specs::Pick::index_named))]
+pub fn index<S: Store>(alloc: Global, store: &mut S) -> Result<Vec<IndexEntry>, Halt<Denial>>
+    ensures gives { S.told → Gives (λ v. v.items) result (index_named (S.seen store.old).content) }
+    ensures order { IfOk result (λ v. IsInOrder v.items) }
+    ensures reads { Reads S.told halt_cause result (S.seen store.old) (S.seen store.new) }
+{
+    let entries = entries_of(alloc, store)?;
+    let count = entries.len();
+    if count > INDEX_LIMIT {
+        return Err(Halt::Stops(Denial::Limit {
+            what: LimitWhat::IndexEntries,
+            number: count as u64,
+        }));
+    }
+    Ok(entries)
+}
+
+/// The first entry that is not merged.
+fn unmerged(entries: &[IndexEntry]) -> Option<&IndexEntry>
+    ensures { option_map (λ e. e.now) result ≡ find (λ e. not (is_merged e)) entries.now }
+{
+    entries.iter().find(|entry| entry.stage != 0)
+}
+
+/// Refuses where an entry is not merged.
+#[tactic(auto, unfolding(seq_model::specs::Pick::unmerged))]
+pub fn refuse_unmerged(alloc: Global, entries: &[IndexEntry]) -> Result<(), Halt<Denial>>
+    ensures gives { Gives (λ x. x) result (refuse_found (unmerged_of entries.now) Refusal.Unmerged) }
+    ensures no_fault { IsErrOf result Halt.Fault → ⊥ }
+{
+    match unmerged(entries) {
+        Some(entry) => {
+            let path = Bytes::from_vec(entry.path.bytes().to_vec(alloc)?);
+            Err(refused(Refusal::Unmerged { path }))
+        }
+        None => Ok(()),
+    }
+}

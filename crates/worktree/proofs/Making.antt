@@ -1,0 +1,52 @@
+-- Writes that are made one after another, as far as they were made.
+use Rattle.std.proofs.Common.{◌≡◌, false, List, [], ◌∷◌, Ok, Err, refl, ◌∙◌}
+use Rattle.std.specs.FinMap as map
+use Rattle.std.proofs.lemmas.Bool.{or_parts}
+use Rattle.seq_base.specs.Words.{Path}
+use Rattle.seq_base.specs.World.{World}
+use Rattle.seq_outside.specs.Halts.{Denies}
+use Rattle.seq_outside.specs.declared.halt.Halt.{Halt}
+use Rattle.seq_outside.specs.declared.halt.Halt.TheVariants.{Stops, Fault, Memory}
+use Rattle.seq_outside.specs.declared.lack.Lack.{Lack}
+use Rattle.seq_outside.specs.declared.write.Write.{Write}
+use Rattle.seq_outside.specs.Writes.{is_at, is_written}
+use Rattle.worktree.specs.Switches.{write_made, writes_made}
+
+-- from here the rest leaves what all leave from the start
+pub record LeftOver (start now : World) (all rest : List Write) : Type 0 where
+  pub means : writes_made all start ≡ writes_made rest now
+  pub elsewhere : (path : Path) → is_written all path ≡ false → (map.get now path ≡ map.get start path) × (is_written rest path ≡ false)
+
+one_made : (now next : World) (write : Write) (rest : List Write) → write_made write now ≡ Ok (tt, next) → writes_made (write ∷ rest) now ≡ writes_made rest next
+unfolding writes_made
+one_made now next write rest made = rw made refl
+
+pub one_left : (start now next : World) (all rest : List Write) (write : Write) → LeftOver start now all (write ∷ rest) → write_made write now ≡ Ok (tt, next)
+    → ((path : Path) → is_at path write ≡ false → map.get next path ≡ map.get now path) → LeftOver start next all rest
+one_left start now next all rest write left made other = record {
+  means = left.means ∙ one_made now next write rest made;
+  elsewhere = λ path none.
+      let here = left.elsewhere path none in
+      let both = or_parts (is_at path write) (is_written rest path) here.1 in
+      (other path both.0 ∙ here.0, both.1);
+}
+
+-- where one stops all do
+stopped : (now : World) (write : Write) (rest : List Write) (why : Lack) → write_made write now ≡ Err why → writes_made (write ∷ rest) now ≡ Err why
+unfolding writes_made
+stopped now write rest why is = rw is refl
+
+pub one_denied : (start now : World) (all rest : List Write) (write : Write) (halt : Halt Lack) → LeftOver start now all (write ∷ rest) → Denies halt (write_made write now) → Denies halt (writes_made all start)
+one_denied start now all rest write (Stops why) left denied = left.means ∙ stopped now write rest why denied
+one_denied start now all rest write Fault left denied = tt
+one_denied start now all rest write Memory left denied = tt
+
+pub none_left : (start now : World) (all : List Write) → LeftOver start now all [] → writes_made all start ≡ Ok (tt, now)
+unfolding writes_made
+none_left start now all left = left.means
+
+pub elsewhere_denied : (start now next : World) (all rest : List Write) (write : Write) → LeftOver start now all (write ∷ rest)
+    → ((path : Path) → is_at path write ≡ false → map.get next path ≡ map.get now path) → (path : Path) → is_written all path ≡ false → map.get next path ≡ map.get start path
+elsewhere_denied start now next all rest write left other path none =
+    let here = left.elsewhere path none in
+    other path (or_parts (is_at path write) (is_written rest path) here.1).0 ∙ here.0

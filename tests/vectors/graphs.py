@@ -1,0 +1,58 @@
+"""Cases of merge_base."""
+
+from .cases import Repository, chooser
+
+
+def number_id(number):
+    return f"{number:08x}" + "0" * 32
+
+
+def add_git(cases):
+    cases.group(
+        "Merge bases: what `git merge-base --all` prints, in byte order; and whether the first is an ancestor of the second, and the second one",
+        "of the first: `git merge-base --is-ancestor`.",
+    )
+    repository = Repository()
+    tree = repository.put("tree", b"")
+    crossed = [("r", ""), ("q", ""), ("c", "r"), ("b", "r"), ("y", "cb"), ("x", "bc")]
+    crossed += [("n", "q"), ("m", "xn"), ("k", "yn"), ("o", "mkc"), ("i", "")]
+    pairs = ["xy", "mk", "my", "om", "yc", "xx", "xn", "io", "ro", "or", "nk", "qm"]
+    graphs = [(crossed, pairs)]
+    pick = chooser("graphs")
+    for _ in range(12):
+        letters = "abcdefghijklmn"[: pick.randint(3, 14)]
+        graph = [(letter, "".join(pick.sample(letters[:at], min(at, pick.choice([0, 1, 1, 1, 2, 2, 3]))))) for at, letter in enumerate(letters)]
+        graphs.append((graph, ["".join(pick.choices(letters, k=2)) for _ in range(8)]))
+    for number, (graph, asked) in enumerate(graphs):
+        names = {}
+        fields = [len(graph)]
+        for letter, parents in graph:
+            names[letter] = repository.commit(tree, [names[parent] for parent in parents], f"{number} {letter}\n".encode())
+            fields += [names[letter], len(parents), *(names[parent] for parent in parents)]
+        for a, b in asked:
+            found = repository.try_git("merge-base", "--all", names[a], names[b])[1].decode().split()
+            ways = [repository.try_git("merge-base", "--is-ancestor", names[x], names[y])[0] == 0 for x, y in (a + b, b + a)]
+            cases.add("merge-bases", [*fields, names[a], names[b]], ["bases", *sorted(found), *ways])
+
+
+def add_rules(cases):
+    cases.group("What is not added: a commit that is there, and one with a parent that is not, the first such parent. By the written rule.")
+    a, b, c = (number_id(number) for number in (1, 2, 3))
+    answer = ["bases", a, True, True]
+    for fields, faults in [
+        ([2, a, 0, a, 0], ["double"]),
+        ([2, a, 0, a, 1, b], ["double"]),
+        ([2, a, 0, b, 1, c], ["no-parent", c]),
+        ([2, a, 0, b, 3, a, c, b], ["no-parent", c]),
+        ([2, a, 0, b, 1, b], ["no-parent", b]),
+        ([3, a, 0, b, 1, c, c, 2, a, b], ["no-parent", c, "no-parent", b]),
+    ]:
+        cases.add("merge-bases", [*fields, a, a], faults + answer)
+    cases.group("A chain of commits, numbered from 1: the first is the merge base of the first and the last. By the written rule.")
+    for count in (1, 2, 100, 100_000):
+        cases.add("merge-bases-of-chain", [count], ["bases", a, True, count == 1, "double"])
+
+
+def add(cases):
+    add_git(cases)
+    add_rules(cases)
