@@ -1,1 +1,1 @@
-"""The cases of crates/vectors, a module for each of its modules, and where each wanted answer comes from."""
+"""The cases of crates/vectors and crates/decision_vectors, a module for each subject, and where each wanted answer comes from."""

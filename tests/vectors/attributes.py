@@ -101,6 +101,10 @@ MERGES = [
     (b"", b"", b"*  merge=a\t \tmerge=b \n", b"x"),
 ]
 
+# Words that mention an attribute, by a name that Git takes and by one that it does not.
+NAMED = [b"_", b".x", b"x-", b"9", b"-x", b"!_.-9", b"x=#,(", b"-x=y", b"x=1=2", b"Az.0_-"]
+UNNAMED = [b"# comment", b"#", b"-", b"!", b"=x", b"--x", b"-!x", b"!-x", b"x,y", b"x+y=1", b"\xc3\xa9", b"(x)", b"x\x0b", b"a/b", b"x:y", b"merge!"]
+
 
 class Git:
     """What `git check-attr merge` says."""
@@ -142,18 +146,19 @@ def add_patterns(cases, git):
 
 def add_rules(cases):
     cases.group(
-        "The lines of a rule file: pattern and attributes. Blanks at the front and a CR at the end go; lines that are empty or begin with `#`,",
-        "`!` or `\"` are passed over. By the written rule.",
+        "The lines of a rule file: pattern and attributes. Blanks at the front and a CR at the end go; lines that are empty, begin with `#`,",
+        "`!` or `\"`, or have a word with no name of an attribute, are passed over. By the written rule.",
     )
     texts = [b"", b"a b\n", b"a", b" \ta  b c\n", b"#a b\n!c d\n\"e\" f\n", b"a b\r\nc\td e"]
     texts += [b"\n \n\t\r\n", b"a\t\n", b"a \r\n", b"a  \n", b" # x\n", b"a b \n"]
-    for text in texts + [b"\r\n", b"a\rb c\n", b"[attr]m merge\n", b"a b\n\n\nc d\n", b"\xff \0\n"]:
+    for text in texts + [b"\r\n", b"a\rb c\n", b"[attr]m merge\n", b"a b\n\n\nc d\n", b"\xff \0\n", b"a b # c\n", b"a -b !c=d e=#\nf --g\n"]:
         rows = []
         for line in text.split(b"\n"):
             line = line.removesuffix(b"\r").lstrip(b" \t")
             if line and line[:1] not in b'#!"':
                 at = min([line.index(blank) for blank in (b" ", b"\t") if blank in line], default=len(line))
-                rows += [line[:at], line[at + 1 :]]
+                if all(re.match(rb"[-!]?[A-Za-z0-9_.][-A-Za-z0-9_.]*(=|$)", word) for word in re.split(rb"[ \t]+", line[at + 1 :]) if word):
+                    rows += [line[:at], line[at + 1 :]]
         cases.add("rules", [text], ["lines", len(rows) // 2, *rows])
 
 
@@ -174,12 +179,16 @@ def add_merges(cases, git):
                 lines.append(pick.choice(patterns) + b" " + b" ".join(pick.sample(words, pick.randint(1, 2))) + b"\n")
             texts.append(b"".join(lines))
         rows.append((*texts, pick.choice(paths)))
+    for word in NAMED + UNNAMED:
+        rows.append((b"", b"", b"* merge=a\n* " + word + b" merge=b\n", b"x"))
+        rows.append((b"", b"* merge=b " + word + b"\n", b"* merge=a\n", b"d/x"))
+        rows.append((b"", b"", b"[attr]m merge=b " + word + b"\n* merge=a m\n", b"x"))
     for info, folder, root, path in rows:
         value = git.ask(info, folder, root, [path])[0]
         cases.add("merge-attribute", [path, b"", info, b"d", folder, b"", root], answer_of(value))
-    cases.group("Where the rule is ours: `-merge=x` and `!merge=x` mention another attribute.")
-    for text in (b"* -merge=x\n", b"* !merge=x\n"):
-        cases.add("merge-attribute", [b"x", b"", b"* merge=a\n" + text], ["named", b"a"])
+    cases.group("Where the rule is ours: `-merge=x` and `!merge=x` mention another attribute; a CR inside a line is no blank, and no byte of a name.")
+    for text, value in [(b"* -merge=x\n", b"a"), (b"* !merge=x\n", b"a"), (b"* merge=b\rmerge=c\n", b"b\rmerge=c"), (b"* text\rmerge\n", b"a"), (b"*\rmerge=b\n", b"a")]:
+        cases.add("merge-attribute", [b"x", b"", b"* merge=a\n" + text], ["named", value])
 
 
 def add(cases):

@@ -30,6 +30,7 @@ class Cases:
     def __init__(self):
         self.asked = []
         self.wanted = []
+        self.answers = {}
         self.count = 0
 
     def group(self, *lines):
@@ -44,9 +45,15 @@ class Cases:
         self.wanted.append(line)
 
     def add(self, verb, fields, answer):
-        self.asked.append(" ".join([verb, *map(word, fields)]))
-        self.wanted.append(" ".join(map(word, answer)))
-        self.count += 1
+        """Adds a case. One that stands already must have the same answer, and does not stand twice."""
+        asked = " ".join([verb, *map(word, fields)])
+        wanted = " ".join(map(word, answer))
+        if self.answers.setdefault(asked, wanted) != wanted:
+            raise RuntimeError(f"two answers for {asked}: {self.answers[asked]} and {wanted}")
+        if len(self.answers) > self.count:
+            self.asked.append(asked)
+            self.wanted.append(wanted)
+            self.count += 1
 
 
 class Repository:

@@ -119,9 +119,9 @@ def script_of(name, email, date):
 def add_scripts(cases):
     cases.group(
         "The author's script, both ways: the file .git/rebase-merge/author-script where `git rebase` stops at a conflict, and the author of the",
-        "commit. (Ours is that `!` is not quoted, so no name here has one.)",
+        "commit.",
     )
-    people = [("Bob O'Neil", "bob@'x", "1700000000 -1200"), ("Sam Ö", "sam@x", "0 +0000")]
+    people = [("Bob O'Neil", "bob@'x", "1700000000 -1200"), ("Sam Ö", "sam@x", "0 +0000"), ("A!b'c", "a!@x", "7 +0000")]
     people += [("a b  c", "a b", "1 +1400"), ("x''y", "'", "2 -0330")]
     people += [('a"b', "$x", "3 +0000"), ("x\\y", "`x`", "4 +0000"), ("A", "", "5 +0545"), ("a'b'c", "d''e", "4294967296 +0000")]
     scripts = []

@@ -7,11 +7,9 @@ use Rattle.attr_rules.specs.declared.attribute.MergeAttr.{MergeAttr}
 use Rattle.attr_rules.specs.declared.attribute.MergeAttr.TheVariants.{Unspecified, Set, Unset, Named}
 use Rattle.attr_rules.specs.declared.rules.Line.{Line}
 use Rattle.attr_rules.specs.declared.macros.Macro.{Macro}
+use Rattle.attr_rules.specs.Names.{is_equals}
 use Rattle.attr_rules.specs.Rules.{RuleFile}
 use Rattle.seq_base.specs.Blanks.{is_blank}
-
-abbrev pub is_equals : ℕ → Bool
-is_equals b = b == 61
 
 abbrev pub has_equals : List ℕ → Bool
 has_equals word = list_any is_equals word

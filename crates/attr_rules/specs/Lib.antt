@@ -1,3 +1,4 @@
+pub mod Names
 pub mod Letters
 pub mod Pieces
 pub mod Matches

@@ -1,7 +1,7 @@
 -- gitattributes(5), "DESCRIPTION": the attribute `merge` of a path under rule files, the strongest first.
 use Rattle.std.specs.Prelude.{◌≡◌, ℕ, ◌+◌, ◌==◌, false, if◌then◌else◌, List, [], ◌∷◌, Option, Some, None, length, drop, unwrap_or}
 use Rattle.std.specs.Option.{option_or}
-use Rattle.seq_base.specs.PathMaps.{is_folder_of}
+use Rattle.seq_base.specs.World.{is_below}
 use Rattle.attr_rules.specs.declared.attribute.MergeAttr.{MergeAttr}
 use Rattle.attr_rules.specs.declared.attribute.MergeAttr.TheVariants.{Unspecified}
 use Rattle.attr_rules.specs.declared.rules.Line.{Line}
@@ -13,7 +13,7 @@ use Rattle.attr_rules.specs.Matches.{Matches}
 abbrev pub below : List ℕ → List ℕ → Option (List ℕ)
 below folder path =
     if length folder == 0 then Some path
-    else if is_folder_of folder path then Some (drop (length folder + 1) path)
+    else if is_below folder path then Some (drop (length folder + 1) path)
     else None
 
 -- a rule for the path, and no definition of a macro

@@ -1,7 +1,8 @@
 -- gitattributes(5), "DESCRIPTION": the lines of a rule file.
-use Rattle.std.specs.Prelude.{ℕ, ◌-◌, ◌==◌, Bool, ◌||◌, if◌then◌else◌, List, [], ◌∷◌, Option, Some, None, length, take, slice_index}
+use Rattle.std.specs.Prelude.{ℕ, ◌-◌, ◌==◌, Bool, not, ◌||◌, if◌then◌else◌, List, [], ◌∷◌, Option, Some, None, length, take, slice_index}
 use Rattle.std.specs.List.{slice_split, filter_map, before_first, after_first}
 use Rattle.attr_rules.specs.declared.rules.Line.{Line}
+use Rattle.attr_rules.specs.Names.{have_names}
 use Rattle.seq_base.specs.Blanks.{is_blank}
 
 -- the rules of a file: its folder, and its lines
@@ -25,11 +26,12 @@ without_blanks (b ∷ bs) = if is_blank b then without_blanks bs else b ∷ bs
 abbrev pub is_other : ℕ → Bool
 is_other b = (b == 35) || (b == 33) || (b == 34)
 
--- a pattern, and behind a blank its attributes
+-- a pattern, and behind a blank its attributes, each by a name that an attribute may have
 abbrev pub rule_of : List ℕ → Option Line
 rule_of [] = None
 rule_of (b ∷ bs) =
     if is_other b then None
+    else if not (have_names (after_first is_blank (b ∷ bs))) then None
     else Some (record { pattern = before_first is_blank (b ∷ bs); attributes = after_first is_blank (b ∷ bs) })
 
 abbrev pub line_of : List ℕ → Option Line

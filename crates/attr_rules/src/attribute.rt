@@ -1,10 +1,11 @@
 //! What the words of a rule say of the attribute `merge`.
 
 ghost use Rattle.std.specs.Prelude.{◌≡◌, ◌==◌, IfOk, codes};
-ghost use Rattle.std.specs.List.{list_any, before_first, after_first};
+ghost use Rattle.std.specs.List.{list_any};
 ghost use Rattle.std.specs.Str.{bytes_eq};
-ghost use Rattle.attr_rules.specs.Attributes.{is_equals, has_equals, is_set, if_merge, valued, own};
+ghost use Rattle.attr_rules.specs.Attributes.{has_equals, is_set, if_merge, valued, own};
 
+use crate::name::name_and_value;
 use crate::rules::bytes_of;
 use seq_base::Bytes;
 use std::alloc::{AllocError, Global};
@@ -23,18 +24,6 @@ fn has_equals(word: &[u8]) -> bool
     ensures { result ≡ has_equals word.now }
 {
     word.iter().any(|b| *b == b'=')
-}
-
-fn name_and_value(word: &[u8]) -> (&[u8], &[u8])
-    ensures before { result.0.now ≡ before_first is_equals word.now }
-    ensures behind { result.1.now ≡ after_first is_equals word.now }
-{
-    for (n, byte) in word.iter().enumerate() {
-        if *byte == b'=' {
-            return (&word[..n], &word[n + 1..]);
-        }
-    }
-    (word, &[])
 }
 
 /// Whether a word sets the attribute of that name.

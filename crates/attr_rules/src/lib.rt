@@ -7,6 +7,7 @@ mod letter;
 mod macros;
 mod matching;
 mod merging;
+mod name;
 mod piece;
 mod reach;
 mod rules;

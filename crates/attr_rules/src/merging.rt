@@ -1,7 +1,6 @@
 //! The attribute `merge` of a path.
 
 ghost use Rattle.std.specs.Prelude.{◌≡◌, IfOk, MatchOption, None, Some};
-ghost use Rattle.seq_base.specs.PathMaps.{is_folder_of};
 ghost use Rattle.attr_rules.specs.Known.{told};
 ghost use Rattle.attr_rules.specs.MergeAttrs.{below, LineSays, LinesSay, FileSays, FilesSay, IsMergeAttr};
 
@@ -9,14 +8,8 @@ use crate::attribute::MergeAttr;
 use crate::macros::{Known, defines, known_macros, last_told};
 use crate::matching::matches;
 use crate::rules::{Line, Rules};
-use seq_base::Path;
+use seq_base::{Path, lies_below};
 use std::alloc::{AllocError, Global};
-
-fn is_below(folder: &[u8], path: &[u8]) -> bool
-    ensures { result ≡ is_folder_of folder.now path.now }
-{
-    path.starts_with(folder) && path[folder.len()..].starts_with(b"/")
-}
 
 /// The path as it is counted from the folder, if it lies below.
 fn below<'a>(folder: &[u8], path: &'a [u8]) -> Option<&'a [u8]>
@@ -25,7 +18,7 @@ fn below<'a>(folder: &[u8], path: &'a [u8]) -> Option<&'a [u8]>
     if folder.is_empty() {
         return Some(path);
     }
-    if is_below(folder, path) {
+    if lies_below(folder, path) {
         Some(&path[folder.len() + 1..])
     } else {
         None

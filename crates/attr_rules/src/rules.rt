@@ -5,6 +5,7 @@ ghost use Rattle.std.specs.Option.{option_map};
 ghost use Rattle.attr_rules.specs.Rules.{line_of, lines_of};
 
 use crate::cut::{first_line, first_word, without_blanks, without_return};
+use crate::name::have_names;
 use seq_base::Bytes;
 use std::alloc::{AllocError, Global};
 use std::marker::Model;
@@ -62,6 +63,9 @@ fn line_of(alloc: Global, line: &[u8]) -> Result<Option<Line>, AllocError>
         return Ok(None);
     }
     let (pattern, attributes) = first_word(text);
+    if !have_names(attributes) {
+        return Ok(None);
+    }
     Ok(Some(Line {
         pattern: bytes_of(alloc, pattern)?,
         attributes: bytes_of(alloc, attributes)?,
@@ -84,8 +88,9 @@ fn lines_of(alloc: Global, text: &[u8]) -> Result<Vec<Line>, AllocError>
 }
 
 /// The rules of a file that lies in this folder, by gitattributes(5), "DESCRIPTION". A line is a pattern and attributes,
-/// separated by blanks. Blanks at its front and a CR at its end are dropped. Lines that are empty or begin with `#`, `!` or
-/// `"` are passed over.
+/// separated by blanks. Blanks at its front and a CR at its end are dropped. Lines that are empty, begin with `#`, `!` or `"`, or
+/// mention an attribute by what is no name, as behind a comment, are passed over. A name has letters, digits, `-`, `.` and `_`,
+/// and does not begin with `-`.
 pub fn parse_rules(alloc: Global, text: &[u8], folder: &[u8]) -> Result<Rules, AllocError>
     ensures { IfOk result (λ rules. (rules.folder ≡ folder.now) × (rules.lines ≡ lines_of text.now)) }
 {

@@ -73,13 +73,20 @@ pub fn read<R: Files + AllocGlobal>(
     }
 }
 
-// The bytes of a file, in room for as many as it had and one more: so it is read at once, and its end is met without growing.
+// The bytes of a file that had so many, read in room for one more: where a read gives just as many, it met the end.
 fn bytes_of<R: Files>(rt: &R, alloc: Global, path: &str, length: u64) -> io::Result<Vec<u8>> {
-    let room = usize::try_from(length)
-        .unwrap_or(usize::MAX)
-        .saturating_add(1);
-    let mut bytes = Vec::with_capacity(alloc, room)?;
-    fs::open(rt, path)?.read_to_end(&mut bytes)?;
+    let length = usize::try_from(length).unwrap_or(usize::MAX);
+    let mut bytes = vec![in alloc; 0; length.saturating_add(1)]?;
+    let mut file = fs::open(rt, path)?;
+    let count = match file.read(&mut bytes) {
+        Ok(count) => count,
+        Err(error) if error.kind() == io::ErrorKind::Interrupted => 0,
+        Err(error) => return Err(error),
+    };
+    bytes.truncate(count);
+    if count != length {
+        file.read_to_end(&mut bytes)?;
+    }
     Ok(bytes)
 }
 

@@ -49,17 +49,28 @@ fn answers_are_printed(rt: HostRuntime) -> Result<(), Fail> {
     let alloc = rt.alloc();
     let pick = ["cherry-pick", "abc"];
     assert!(rt; answers(alloc, true, &[], "usage no-verb\n", 2)?);
-    assert!(rt;
-        answers(
-            alloc,
-            true,
-            &["rebase", "a"],
-            "usage unknown-verb rebase\n",
-            2
-        )?
-    );
-    assert!(rt; answers(alloc, true, &["cherry-pick"], "usage parse\n", 2)?);
+    assert!(rt; answers(alloc, true, &["log"], "usage unknown-verb log\n", 2)?);
     assert!(rt; answers(alloc, true, &pick, "refused not-built\n", 3)?);
     assert!(rt; answers(alloc, false, &pick, "refused not-a-repository\n", 3)?);
+    Ok(())
+}
+
+// What `git rebase`, `git cherry-pick` and `git revert` take is taken, and what is not built of it is refused.
+#[test]
+fn words_are_read(rt: HostRuntime) -> Result<(), Fail> {
+    let alloc = rt.alloc();
+    let missing = ["cherry-pick"];
+    let bogus = ["cherry-pick", "--bogus", "M"];
+    let often = ["rebase", "--empty=often", "main"];
+    let pair = ["rebase", "--continue", "main"];
+    assert!(rt; answers(alloc, true, &missing, "usage missing\n", 2)?);
+    assert!(rt; answers(alloc, true, &bogus, "usage parse\n", 2)?);
+    assert!(rt; answers(alloc, true, &often, "usage value often\n", 2)?);
+    assert!(rt; answers(alloc, false, &pair, "usage pair --continue UPSTREAM\n", 2)?);
+    let revert = ["revert", "-m1", "M"];
+    let status = ["status"];
+    assert!(rt; answers(alloc, true, &revert, "refused not-built\n", 3)?);
+    assert!(rt; answers(alloc, false, &revert, "refused not-a-repository\n", 3)?);
+    assert!(rt; answers(alloc, true, &status, "refused not-built\n", 3)?);
     Ok(())
 }

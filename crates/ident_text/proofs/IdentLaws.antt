@@ -1,5 +1,5 @@
 -- Reading who made a commit and when.
-use Rattle.std.proofs.Common.{◌≡◌, ℕ, zero, suc, ◌+◌, ◌-◌, ◌<◌, Bool, true, false, cond, not, ◌&&◌, eqb, List, [], ◌∷◌, ◌++◌, length, take, get_or, Some, None, Ok, Err, refl, sym, ap, subst, ◌∙◌, append_assoc, arith, ℤ, FitsSigned}
+use Rattle.std.proofs.Common.{◌≡◌, ℕ, zero, suc, ◌+◌, ◌-◌, ◌<◌, ◌≤◌, Bool, true, false, cond, not, ◌&&◌, eqb, List, [], ◌∷◌, ◌++◌, length, take, get_or, Some, None, Ok, Err, refl, sym, ap, subst, ◌∙◌, append_assoc, arith, ℤ, FitsSigned}
 use Rattle.std.specs.Prelude.{codes}
 use Rattle.std.specs.Int.{w64}
 use Rattle.std.specs.Char.{is_ascii_digit}
@@ -9,21 +9,21 @@ use Rattle.std.proofs.lemmas.List.{append-nil, length-append, take_at, take_all,
 use Rattle.std.proofs.lemmas.List.Folds.{list_all-append}
 use Rattle.std.proofs.lemmas.Bool.{eqb-true, eq-eqb, ne_eqb}
 use Rattle.grammar.specs.Grammar.{AllBytes}
-use Rattle.grammar.specs.Readers.{◌>>=◌, Reads, ReadsAll, HasText, Then, then_at, Nothing, nothing_at, Word, IsWord, Run, run_at, Literal, literal_at, Passing, passing_at, End, end_at}
+use Rattle.grammar.specs.Readers.{◌>>=◌, Reads, ReadsAll, HasText, Then, then_at, Nothing, nothing_at, Word, IsWord, Run, run_at, Literal, literal_at, Passing, passing_at, End, end_at, TextOf}
 use Rattle.grammar.proofs.Laws.{AllBytes-append, then_reads, then_reads_all, nothing_reads}
 use Rattle.grammar.proofs.Words.{valued_reads, valued_of, word_has, span_may}
 use Rattle.grammar.proofs.FieldLaws.{literal_reads, literal_has, reads_same, reads_all_same, end_reads}
-use Rattle.grammar.proofs.Maps.{all_mapped}
+use Rattle.grammar.proofs.Maps.{all_mapped, text_reads, text_has}
 use Rattle.grammar.proofs.Passing.{and_true, passing_reads, passing_has, run_reads, run_has}
 use Rattle.ident_text.specs.declared.ident.Ident.{Ident}
-use Rattle.ident_text.specs.Idents.{is_ident_byte, is_sign, is_zone, IsIdent}
-use Rattle.ident_text.specs.ReadIdents.{ends_in_space, name_value, name_from, secs_value, is_secs_front, secs_from, zone_from, made, ident_from, whole_ident_from}
+use Rattle.ident_text.specs.Idents.{is_ident_byte, is_sign, is_zone, IsIdent, IsIdentText}
+use Rattle.ident_text.specs.ReadIdents.{ReadsAsIdent, ends_in_space, name_value, name_from, secs_value, is_secs_front, secs_from, zone_from, made, ident_from, ident_text_from, whole_ident_from}
 use Rattle.ident_text.proofs.Secs.{both_true, asked, some_is, not_this, is_secs_word, secs_is, secs_written}
 
 -- ---- the name
 
 -- a front of what passes passes, and so does its last byte
-front_passes : (test : ℕ → Bool) (front back : List ℕ) (b : ℕ) → list_all test (front ++ b ∷ back) ≡ true → (list_all test (front ++ b ∷ []) ≡ true) × (test b ≡ true)
+pub front_passes : (test : ℕ → Bool) (front back : List ℕ) (b : ℕ) → list_all test (front ++ b ∷ back) ≡ true → (list_all test (front ++ b ∷ []) ≡ true) × (test b ≡ true)
 front_passes test front back b all =
     let whole = ap (list_all test) (append_assoc front (b ∷ []) back) ∙ all in
     let k = and_true (list_all test (front ++ b ∷ [])) (list_all test back) (sym (list_all-append test (front ++ b ∷ []) back) ∙ whole) in
@@ -320,6 +320,17 @@ ident_reads = reads_same AtName IsIdent ident_from to_ident from_ident names_rea
 pub ident_has : HasText IsIdent
 ident_has = let h = has_then NameText (λ name. AtEmail name) ([], 32 ∷ 60 ∷ [], (omega arith, (omega arith, tt)), (refl, refl)) emails_have in (h.0, h.1, h.2, to_ident h.0 h.1 h.3)
 
+-- an ident, as it stands
+pub ident_text_reads : Reads (TextOf IsIdent) ident_text_from
+unfolding ident_text_from
+ident_text_reads = text_reads IsIdent ident_from ident_reads
+
+pub ident_text_has : HasText (TextOf IsIdent)
+ident_text_has = text_has IsIdent ident_has
+
+pub ident_within : (bytes rest : List ℕ) (ident : Ident) → ident_from bytes ≡ Ok (ident, rest) → length rest ≤ length bytes
+ident_within bytes rest ident e = let k = ident_reads.takes bytes ident rest e in omega (arith, ap length k.2, length-append k.0 rest)
+
 -- ---- an ident alone
 
 -- nothing more, and a value
@@ -339,3 +350,9 @@ whole_ident_reads = reads_all_same (Then IsIdent (λ ident. Nothing ident)) IsId
 
     from : (x : Ident) (text : List ℕ) → IsIdent x text → Then IsIdent (λ ident. Nothing ident) x text
     from x text g = (x, text, [], g, (refl, refl), sym (append-nil text))
+
+-- the text of some ident reads as that one
+pub reads_as : (text : List ℕ) → IsIdentText text → ReadsAsIdent text
+reads_as text (ident, is) =
+    let read = whole_ident_reads.again ident text is in
+    record { ident = ident; read = read; alone = λ other is_too. let too = whole_ident_reads.again other text is_too in cc; back = is.text_is }

@@ -1,3 +1,4 @@
 pub mod Secs
 pub mod IdentLaws
 pub mod ScriptLaws
+pub mod IdLaws

@@ -33,3 +33,7 @@ pub record IsIdent (ident : Ident) (text : List ℕ) : Type 0 where
   pub value : IsIdentValue ident
   pub fits : FitsSigned w64 ident.secs
   pub text_is : text ≡ ident_text ident
+
+-- the text of some ident
+abbrev pub IsIdentText : List ℕ → Type 0
+IsIdentText text = (ident : Ident) × IsIdent ident text

@@ -1,4 +1,5 @@
 pub mod Idents
+pub mod Ids
 pub mod AuthorScripts
 pub mod Faults
 pub mod ReadIdents

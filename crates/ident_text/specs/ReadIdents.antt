@@ -1,12 +1,12 @@
 -- Reading who made a commit and when, from left to right.
-use Rattle.std.specs.Prelude.{ℕ, ℤ, pos, negsuc, ◌-◌, ◌^◌, Bool, true, false, not, ◌&&◌, ◌==◌, nat_le, if◌then◌else◌, List, [], ◌∷◌, ◌++◌, length, take, slice_index, Option, Some, None, Result, Ok}
+use Rattle.std.specs.Prelude.{◌≡◌, ℕ, ℤ, pos, negsuc, ◌-◌, ◌^◌, Bool, true, false, not, ◌&&◌, ◌==◌, nat_le, if◌then◌else◌, List, [], ◌∷◌, ◌++◌, length, take, slice_index, Option, Some, None, Result, Ok}
 use Rattle.std.specs.Char.{is_ascii_digit}
 use Rattle.std.specs.List.{list_all}
 use Rattle.std.specs.Str.Parse.{digits_value}
 use Rattle.grammar.specs.Decimals.{is_decimal_front}
-use Rattle.grammar.specs.Readers.{◌>>=◌, valued_at, run_at, literal_at, passing_at, end_at}
+use Rattle.grammar.specs.Readers.{◌>>=◌, valued_at, run_at, literal_at, passing_at, end_at, text_at}
 use Rattle.ident_text.specs.declared.ident.Ident.{Ident}
-use Rattle.ident_text.specs.Idents.{is_ident_byte, is_sign}
+use Rattle.ident_text.specs.Idents.{IsIdent, ident_text, is_ident_byte, is_sign}
 
 abbrev pub ends_in_space : List ℕ → Bool
 ends_in_space w = not (length w == 0) && slice_index w (length w - 1) == 32
@@ -63,8 +63,20 @@ ident_from bytes = do
   zone ← zone_from secs.1
   Ok (made name.0 email.0 secs.0 zone.0, zone.1)
 
+-- the text of an ident, and what stands behind it
+unfoldable pub ident_text_from : List ℕ → Result (List ℕ × List ℕ) ℕ
+ident_text_from bytes = text_at ident_from bytes
+
+-- an ident, and nothing behind it
 unfoldable pub whole_ident_from : List ℕ → Result Ident ℕ
 whole_ident_from bytes = do
   ident ← ident_from bytes
   end ← end_at ident.1
   Ok ident.0
+
+-- the text reads as one ident alone, and is that ident's text
+pub record ReadsAsIdent (text : List ℕ) : Type 0 where
+  pub ident : Ident
+  pub read : whole_ident_from text ≡ Ok ident
+  pub alone : (other : Ident) → IsIdent other text → other ≡ ident
+  pub back : text ≡ ident_text ident

@@ -8,7 +8,7 @@ ghost use Rattle.grammar.specs.Gives.{Gives};
 ghost use Rattle.grammar.specs.Decimals.{is_decimal_front};
 ghost use Rattle.grammar.specs.Readers.{run_at};
 ghost use Rattle.ident_text.specs.Idents.{is_ident_byte as may_name, is_sign};
-ghost use Rattle.ident_text.specs.ReadIdents.{ends_in_space, is_zero_first, is_secs_front, number_of, name_from, secs_from, zone_from, made, ident_from};
+ghost use Rattle.ident_text.specs.ReadIdents.{ends_in_space, is_zero_first, is_secs_front, number_of, name_from, secs_from, zone_from, made, ident_from, ident_text_from};
 
 use grammar::{
     ByteTest, ReadError, Scan, behind_literal, capped_value, passing_front, span_of, word_of,
@@ -222,4 +222,13 @@ pub fn ident_of(bytes: &[u8]) -> Result<(IdentParts<'_>, &[u8]), ReadError>
         zone,
     };
     Ok((parts, rest))
+}
+
+/// The ident at the front, as it stands, and the bytes behind it.
+#[tactic(auto, unfolding(crate::specs::ReadIdents::ident_text_from), using(crate::proofs::IdentLaws::ident_within))]
+pub fn ident_text_of(bytes: &[u8]) -> Result<(&[u8], &[u8]), ReadError>
+    ensures { Gives (λ x. (x.0.now, x.1.now)) result (ident_text_from bytes.now) }
+{
+    let (_, rest) = ident_of(bytes)?;
+    Ok((&bytes[..bytes.len() - rest.len()], rest))
 }

@@ -4,7 +4,7 @@ use Rattle.std.specs.Prelude.{take_while}
 use Rattle.std.specs.List.{list_any, list_all, zip, prefix_len}
 use Rattle.std.proofs.lemmas.Bool.Decides.{nat_tests}
 use Rattle.std.proofs.lemmas.Bool.{eqb-true}
-use Rattle.seq_base.specs.PathMaps.{is_folder_of}
+use Rattle.seq_base.specs.World.{is_below}
 use Rattle.index_file.specs.Fronts.{behind, has_empty, is_empty, fronts, is_below_front, common}
 
 -- ---- how many bytes two lists share
@@ -35,10 +35,7 @@ common_is (x ∷ xs) (y ∷ ys) = counted_by (x == y) (x, y) (zip xs ys) (prefix
 
 -- ---- what lies below
 
-turned : (n b : ℕ) → (n == b) ≡ (b == n)
-turned n b = grind (arith, nat_tests)
-
-empty_first : (k h r : Bool) → (k && true) || ((h && k) || r) ≡ k || r
+empty_first : (k h r : Bool) → k || ((h && k) || r) ≡ k || r
 empty_first true h r = refl
 empty_first false true r = refl
 empty_first false false r = refl
@@ -54,31 +51,27 @@ either_way : (t s u l h k : Bool) (test : List ℕ → Bool) (file : List ℕ) (
 either_way true s u l h k test file files e f = rw (e, f) (past (test file) h k (list_any test files))
 either_way false s u l h k test file files e f = f
 
-any_step : (b : ℕ) (path : List ℕ) (files : List (List ℕ)) → list_any (λ file. is_folder_of file (b ∷ path)) files ≡ (has_empty files && (47 == b)) || list_any (λ file. is_folder_of file path) (behind b files)
+any_step : (b : ℕ) (path : List ℕ) (files : List (List ℕ)) → list_any (λ file. is_below file (b ∷ path)) files ≡ (has_empty files && (b == 47)) || list_any (λ file. is_below file path) (behind b files)
 any_step b path [] = refl
-any_step b path ([] ∷ files) = ap (λ (l : Bool). ((47 == b) && true) || l) (any_step b path files) ∙ empty_first (47 == b) (has_empty files) (list_any (λ file. is_folder_of file path) (behind b files))
+any_step b path ([] ∷ files) = ap (λ (l : Bool). (b == 47) || l) (any_step b path files) ∙ empty_first (b == 47) (has_empty files) (list_any (λ file. is_below file path) (behind b files))
 any_step b path ((c ∷ file) ∷ files) =
-    either_way (c == b) _ _ (list_any (λ file. is_folder_of file (b ∷ path)) files) (has_empty files) (47 == b) (λ file. is_folder_of file path) file (behind b files) refl (any_step b path files)
+    either_way (c == b) _ _ (list_any (λ file. is_below file (b ∷ path)) files) (has_empty files) (b == 47) (λ file. is_below file path) file (behind b files) refl (any_step b path files)
 
-none_below : (files : List (List ℕ)) → list_any (λ file. is_folder_of file []) files ≡ false
+none_below : (files : List (List ℕ)) → list_any (λ file. is_below file []) files ≡ false
 none_below [] = refl
 none_below ([] ∷ files) = none_below files
 none_below ((c ∷ file) ∷ files) = none_below files
 
-swapped : (h k m : Bool) → k ≡ m → h && k ≡ m && h
-swapped true true m e = e ∙ sym (and_true m)
-  where
-    and_true : (b : Bool) → b && true ≡ b
-    and_true true = refl
-    and_true false = refl
-swapped true false m e = elim m as (λ b. false ≡ b → false ≡ b && true) [ true ↦ λ e. e | false ↦ λ e. e ] e
-swapped false k true e = refl
-swapped false k false e = refl
+swapped : (h k : Bool) → h && k ≡ k && h
+swapped true true = refl
+swapped true false = refl
+swapped false true = refl
+swapped false false = refl
 
-pub below_is : (files : List (List ℕ)) (path : List ℕ) → list_any (λ file. is_folder_of file path) files ≡ is_below_front (fronts files path) path
+pub below_is : (files : List (List ℕ)) (path : List ℕ) → list_any (λ file. is_below file path) files ≡ is_below_front (fronts files path) path
 below_is files [] = none_below files
 below_is files (b ∷ path) =
-    any_step b path files ∙ rw (below_is (behind b files) path) (ap (λ (x : Bool). x || is_below_front (fronts (behind b files) path) path) (swapped (has_empty files) (47 == b) (b == 47) (turned 47 b)))
+    any_step b path files ∙ rw (below_is (behind b files) path) (ap (λ (x : Bool). x || is_below_front (fronts (behind b files) path) path) (swapped (has_empty files) (b == 47)))
 
 -- ---- from one path to the next
 

@@ -11,7 +11,7 @@ use Rattle.std.proofs.lemmas.Bool.Decides.{nat_tests}
 use Rattle.std.proofs.lemmas.Cmp.{same_from_slice_cmp}
 use Rattle.std.proofs.lemmas.Map.Text.{is_eq-slice_cmp}
 use Rattle.std.proofs.lemmas.Map.Lookups.{exact_bytes}
-use Rattle.seq_base.specs.PathMaps.{is_folder_of}
+use Rattle.seq_base.specs.World.{is_below}
 use Rattle.index_file.specs.declared.entry.IndexEntry.{IndexEntry}
 use Rattle.index_file.specs.Entries.{comes_before, holds, may_precede, IsInOrder}
 use Rattle.index_file.specs.Fronts.{files_of, fronts, is_below_front, last_of, allows, path_of, HoldsFronts, may_follow}
@@ -149,9 +149,9 @@ held_by true true x l d test es p q = rw (p, q) refl
 held_by true false x l d test es p q = q
 held_by false t x l d test es p q = q
 
-any_holds : (es : List IndexEntry) (e : IndexEntry) → list_any (λ d. holds d e) es ≡ (e.stage == 0) && list_any (λ file. is_folder_of file e.path) (files_of es)
+any_holds : (es : List IndexEntry) (e : IndexEntry) → list_any (λ d. holds d e) es ≡ (e.stage == 0) && list_any (λ file. is_below file e.path) (files_of es)
 any_holds [] e = and_false (e.stage == 0)
-any_holds (d ∷ es) e = held_by (d.stage == 0) (e.stage == 0) (is_folder_of d.path e.path) (list_any (λ d. holds d e) es) d (λ file. is_folder_of file e.path) (filter (λ e. e.stage == 0) es) refl (any_holds es e)
+any_holds (d ∷ es) e = held_by (d.stage == 0) (e.stage == 0) (is_below d.path e.path) (list_any (λ d. holds d e) es) d (λ file. is_below file e.path) (filter (λ e. e.stage == 0) es) refl (any_holds es e)
 
 follow_is : (es : List IndexEntry) (e : IndexEntry) → IsInOrder es → may_follow es e ≡ allows (last_of es) e && not ((e.stage == 0) && is_below_front (fronts (files_of es) e.path) e.path)
 follow_is es e h = follow_split es e ∙ rw (all_before es e h, any_holds es e, below_is (files_of es) e.path) refl

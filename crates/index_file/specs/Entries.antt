@@ -4,7 +4,8 @@ use Rattle.std.specs.List.{AllByRecursion}
 use Rattle.std.specs.Str.{bytes_eq}
 use Rattle.hex.specs.Hex.{IsBytes}
 use Rattle.seq_base.specs.Paths.{IsPath}
-use Rattle.seq_base.specs.PathMaps.{is_less, is_folder_of}
+use Rattle.seq_base.specs.PathMaps.{is_less}
+use Rattle.seq_base.specs.World.{is_below}
 use Rattle.seq_base.specs.declared.mode.Mode.TheVariants.{Folder}
 use Rattle.index_file.specs.declared.entry.IndexEntry.{IndexEntry}
 
@@ -14,7 +15,7 @@ comes_before d e = is_less d.path e.path || (bytes_eq d.path e.path && (nat_lt 0
 
 -- both are merged, and e lies below d as if that were a folder
 abbrev pub holds : IndexEntry → IndexEntry → Bool
-holds d e = d.stage == 0 && (e.stage == 0 && is_folder_of d.path e.path)
+holds d e = d.stage == 0 && (e.stage == 0 && is_below d.path e.path)
 
 -- d may stand somewhere before e
 abbrev pub may_precede : IndexEntry → IndexEntry → Bool

@@ -1,61 +1,44 @@
 -- Reading commits.
-use Rattle.std.proofs.Common.{◌≡◌, ℕ, ◌+◌, ◌<◌, ◌%◌, Bool, true, false, cond, not, ◌&&◌, ◌||◌, eqb, List, [], ◌∷◌, ◌++◌, length, get_or, Option, Some, None, Result, Ok, Err, refl, sym, ap, subst, ◌∙◌, append_assoc, arith}
+use Rattle.std.proofs.Common.{◌≡◌, ℕ, ◌+◌, Bool, true, false, cond, not, ◌&&◌, ◌||◌, eqb, List, [], ◌∷◌, ◌++◌, length, Option, Some, None, Result, Ok, Err, refl, sym, ap, subst, ◌∙◌, append_assoc, arith}
 use Rattle.std.specs.Prelude.{codes}
 use Rattle.std.specs.List.{list_all, flat_map}
-use Rattle.std.specs.Result.{result_unwrap_or}
 use Rattle.std.proofs.lemmas.List.{append-nil, length-append}
 use Rattle.std.proofs.lemmas.List.Concat.{flat_map-cons}
 use Rattle.std.proofs.lemmas.List.Folds.{list_all-append}
-use Rattle.std.proofs.lemmas.List.Sums.{AllPass-from_list_all, list_all-from_AllPass}
 use Rattle.std.proofs.lemmas.Bool.{ne_eqb}
-use Rattle.hex.specs.Hex.{is_hex_digit}
-use Rattle.hex.proofs.HexLemmas.{decode_of-ok, decode_of-digits}
 use Rattle.grammar.specs.Grammar.{AllBytes}
-use Rattle.grammar.specs.Readers.{◌>>=◌, span_at, Reads, ReadsAll, HasText, Then, then_at, then_all, Nothing, nothing_at, Word, IsWord, Passing, passing_at, Literal, literal_at, Rest, Star, star_at, IsStar, BeginsWith, BeginsOtherwise}
+use Rattle.grammar.specs.Readers.{◌>>=◌, TextOf, span_at, Reads, ReadsAll, HasText, Then, then_at, then_all, Nothing, nothing_at, Word, IsWord, Literal, literal_at, Rest, Star, star_at, IsStar, BeginsWith, BeginsOtherwise}
 use Rattle.grammar.proofs.Laws.{AllBytes-append, then_reads, then_reads_all, nothing_reads}
 use Rattle.grammar.proofs.Words.{valued_reads, valued_of, valued_err, span_may}
 use Rattle.grammar.specs.Gives.{Fails}
 use Rattle.grammar.specs.declared.fault.ReadError.{ReadError}
 use Rattle.grammar.specs.declared.fault.ReadError.TheVariants as errors
 use Rattle.grammar.proofs.FieldLaws.{literal_reads, rest_reads, reads_same, reads_all_same}
-use Rattle.grammar.proofs.Passing.{and_true, passing_reads, passing_has}
-use Rattle.grammar.proofs.Maps.{mapped, all_mapped}
+use Rattle.grammar.proofs.Passing.{and_true}
+use Rattle.grammar.proofs.Maps.{all_mapped}
 use Rattle.grammar.proofs.Stars.{star_reads}
+use Rattle.ident_text.specs.Idents.{IsIdent, IsIdentText}
+use Rattle.ident_text.specs.Ids.{id_from}
+use Rattle.ident_text.specs.ReadIdents.{ident_text_from}
+use Rattle.ident_text.proofs.IdentLaws.{front_passes, ident_text_has, ident_text_reads}
+use Rattle.ident_text.proofs.IdLaws.{id_has, id_reads}
 use Rattle.seq_base.specs.Ids.{SpellsId}
 use Rattle.object_text.specs.declared.commit.Commit.{Commit}
 use Rattle.object_text.specs.Commits.{line, is_in_line, is_continuation, is_header_line, AreHeaders, encoding_of, SpellIds, IsCommit}
-use Rattle.object_text.specs.ReadIdents.{ident_from}
-use Rattle.object_text.specs.ReadCommits.{id_of, id_from, keyed_from, tree_line_from, parent_line_from, author_line_from, committer_line_from, may_header, header_value, header_from, message_from, has_header, headers_from, tail_from, is_p, added, made, people_from, parents_from, commit_from}
-use Rattle.object_text.proofs.IdentLaws.{Ident, ident_reads, ident_has, front_passes}
+use Rattle.object_text.specs.ReadCommits.{keyed_from, tree_line_from, parent_line_from, author_line_from, committer_line_from, may_header, header_value, header_from, message_from, has_header, headers_from, tail_from, is_p, added, made, people_from, parents_from, commit_from}
 
 guard : {X : Type 0} (t : Bool) (x y : X) → cond t (Some x) None ≡ Some y → (t ≡ true) × (x ≡ y)
 guard true x y e = (refl, cc)
 guard false x y e = absurd cc
 
--- ---- ids
+-- ---- who made it
 
--- forty digits are an id's
-pub digits_spell : (x : List ℕ) → length x ≡ 40 → list_all is_hex_digit x ≡ true → SpellsId (id_of x) x
-digits_spell x len all =
-    let d = decode_of-digits x (let e : length x % 2 ≡ 0 = rw len refl in e) (AllPass-from_list_all is_hex_digit x all) in
-    let read = d.1 in
-    record { forty = len; bytes = read ∙ ap Ok (sym (ap (λ r. result_unwrap_or r []) read)) }
+-- an ident, as it stands
+abbrev Who : List ℕ → List ℕ → Type 0
+Who = TextOf IsIdent
 
-pub spelled_id : (id x : List ℕ) → SpellsId id x → id ≡ id_of x
-spelled_id id x h = let read = h.bytes in sym (ap (λ r. result_unwrap_or r []) read)
-
-spelled_digits : (id x : List ℕ) → SpellsId id x → list_all is_hex_digit x ≡ true
-spelled_digits id x h = list_all-from_AllPass is_hex_digit x (decode_of-ok x id h.bytes).1
-
-pub id_reads : Reads SpellsId id_from
-unfolding id_from
-id_reads = mapped (Passing is_hex_digit 40) SpellsId (passing_at is_hex_digit 40) id_of
-    (λ x text g. subst (λ (t : List ℕ). SpellsId (id_of x) t) (sym g.2) (digits_spell x g.0 g.1))
-    (λ id text h. (text, (h.forty, spelled_digits id text h, refl), spelled_id id text h))
-    (passing_reads is_hex_digit 48 (omega arith) refl 40)
-
-id_has : HasText SpellsId
-id_has = let p = passing_has is_hex_digit 48 (omega arith) refl 40 in (id_of p.0, p.1, p.2, subst (λ (t : List ℕ). SpellsId (id_of p.0) t) (sym p.3.2) (digits_spell p.0 p.3.0 p.3.1))
+who_is : (x text : List ℕ) → Who x text → IsIdentText x
+who_is x text g = (g.0, subst (IsIdent g.0) g.2 g.1)
 
 -- ---- a line that begins with a key
 
@@ -68,7 +51,7 @@ KeyedParts key value = Then (Literal key) (λ _. Then value (λ x. Then (Literal
 line_fits : AllBytes (10 ∷ [])
 line_fits = (omega arith, tt)
 
-keyed_reads : {X : Type 0} (key : List ℕ) (value : X → List ℕ → Type 0) (value_from : List ℕ → Result (X × List ℕ) ℕ) → AllBytes key → Reads value value_from → HasText value → Reads (Keyed key value) (keyed_from key value_from)
+pub keyed_reads : {X : Type 0} (key : List ℕ) (value : X → List ℕ → Type 0) (value_from : List ℕ → Result (X × List ℕ) ℕ) → AllBytes key → Reads value value_from → HasText value → Reads (Keyed key value) (keyed_from key value_from)
 keyed_reads {X} key value value_from fits reads has = reads_same (KeyedParts key value) (Keyed key value) (keyed_from key value_from)
     (λ x text g.
     let v = g.4 in
@@ -112,10 +95,10 @@ abbrev pub ParentLine : List ℕ → List ℕ → Type 0
 ParentLine = Keyed (codes "parent ") SpellsId
 
 abbrev AuthorLine : List ℕ → List ℕ → Type 0
-AuthorLine = Keyed (codes "author ") Ident
+AuthorLine = Keyed (codes "author ") Who
 
 abbrev CommitterLine : List ℕ → List ℕ → Type 0
-CommitterLine = Keyed (codes "committer ") Ident
+CommitterLine = Keyed (codes "committer ") Who
 
 tree_line_reads : Reads TreeLine tree_line_from
 unfolding tree_line_from
@@ -127,11 +110,11 @@ parent_line_reads = keyed_reads (codes "parent ") SpellsId id_from parent id_rea
 
 author_line_reads : Reads AuthorLine author_line_from
 unfolding author_line_from
-author_line_reads = keyed_reads (codes "author ") Ident ident_from author ident_reads ident_has
+author_line_reads = keyed_reads (codes "author ") Who ident_text_from author ident_text_reads ident_text_has
 
 committer_line_reads : Reads CommitterLine committer_line_from
 unfolding committer_line_from
-committer_line_reads = keyed_reads (codes "committer ") Ident ident_from committer ident_reads ident_has
+committer_line_reads = keyed_reads (codes "committer ") Who ident_text_from committer ident_text_reads ident_text_has
 
 -- what begins with a key begins with its first byte
 begins_key : (test : ℕ → Bool) (c : ℕ) (key text rest : List ℕ) → test c ≡ true → text ≡ (c ∷ key) ++ rest → BeginsWith test text
@@ -292,7 +275,7 @@ made_has : (tree : List ℕ) (parents : List (List ℕ)) (a k : List ℕ) → Ha
 made_has tree parents a k = (made tree parents a k (None, []), 10 ∷ [], line_fits, ((None, []), ([], refl, refl), refl))
 
 committer_has : HasText CommitterLine
-committer_has = keyed_has (codes "committer ") Ident committer ident_has
+committer_has = keyed_has (codes "committer ") Who committer ident_text_has
 
 rest_has : (tree : List ℕ) (parents : List (List ℕ)) (a : List ℕ) → HasText (Then CommitterLine (λ k. Made tree parents a k))
 rest_has tree parents a =
@@ -302,7 +285,7 @@ rest_has tree parents a =
 
 people_has : (tree : List ℕ) (parents : List (List ℕ)) → HasText (People tree parents)
 people_has tree parents =
-    let h = keyed_has (codes "author ") Ident author ident_has in
+    let h = keyed_has (codes "author ") Who author ident_text_has in
     let m = rest_has tree parents h.0 in
     (m.0, h.1 ++ m.1, AllBytes-append h.1 m.1 h.2 m.2, (h.0, h.1, m.1, h.3, m.3, refl))
 
@@ -388,8 +371,8 @@ to_commit c bytes g =
     let a = f.people in
     let k = a.4 in
     let m = k.4 in
-    let author : a.1 ≡ line (codes "author " ++ a.0) = a.3.2 ∙ ap (λ (t : List ℕ). line (codes "author " ++ t)) a.3.1.1 in
-    let committer : k.1 ≡ line (codes "committer " ++ k.0) = k.3.2 ∙ ap (λ (t : List ℕ). line (codes "committer " ++ t)) k.3.1.1 in
+    let author : a.1 ≡ line (codes "author " ++ a.0) = a.3.2 ∙ ap (λ (t : List ℕ). line (codes "author " ++ t)) a.3.1.2 in
+    let committer : k.1 ≡ line (codes "committer " ++ k.0) = k.3.2 ∙ ap (λ (t : List ℕ). line (codes "committer " ++ t)) k.3.1.2 in
     let t = m.1 in
     let lines = (lines_of false t.0 m.0.1 k.2 t.1).1 in
     let whole : bytes ≡ g.1 ++ (flat_map parent_text f.texts ++ (a.1 ++ (k.1 ++ (flat_map line t.0 ++ 10 ∷ m.0.1)))) =
@@ -402,8 +385,8 @@ to_commit c bytes g =
       headers = t.0;
       is_tree = g.3.1;
       are_parents = f.spelled;
-      is_author = a.3.1.0;
-      is_committer = k.3.1.0;
+      is_author = who_is a.0 a.3.0 a.3.1;
+      is_committer = who_is k.0 k.3.0 k.3.1;
       are_headers = are_headers t.0 m.0.1 k.2 t.1;
       encoding_is = t.2;
       text_is = whole ∙ rw (tree, author, committer) (regroup (line (codes "tree " ++ g.3.0)) (flat_map parent_text f.texts) (line (codes "author " ++ a.0)) (line (codes "committer " ++ k.0)) (flat_map line t.0) (10 ∷ m.0.1));
@@ -425,12 +408,12 @@ from_commit c bytes g =
           c.author,
           line (codes "author " ++ c.author),
           later,
-          (c.author, (g.is_author, refl), refl),
+          (c.author, (g.is_author.0, g.is_author.1, refl), refl),
           (
             c.committer,
             line (codes "committer " ++ c.committer),
             headers,
-            (c.committer, (g.is_committer, refl), refl),
+            (c.committer, (g.is_committer.0, g.is_committer.1, refl), refl),
             ((c.encoding, c.message), (g.headers, headers_of g.headers c.message headers g.are_headers refl, g.encoding_is), refl),
             refl,
           ),
@@ -444,21 +427,7 @@ from_commit c bytes g =
 pub commit_reads : ReadsAll IsCommit commit_from
 commit_reads = reads_all_same Parts IsCommit commit_from to_commit from_commit parts_read
 
--- ---- what the program makes of digits and of lines
-
-pub hex_digits : (bytes x rest : List ℕ) → passing_at is_hex_digit 40 bytes ≡ Ok (x, rest) → (length x ≡ 40) × ((k : ℕ) → k < length x → is_hex_digit (get_or x k 0) ≡ true)
-hex_digits bytes x rest e =
-    let k = (passing_reads is_hex_digit 48 (omega arith) refl 40).takes bytes x rest e in
-    (k.1.0, λ i lt. AllPass-from_list_all is_hex_digit x k.1.1 i 0 lt)
-
-pub id_ok : (bytes digits rest id : List ℕ) → passing_at is_hex_digit 40 bytes ≡ Ok (digits, rest) → SpellsId id digits → id_from bytes ≡ Ok (id, rest)
-unfolding id_from
-id_ok bytes digits rest id e h = ap (λ (r : Result (List ℕ × List ℕ) ℕ). r >>= λ x. Ok (id_of x.0, x.1)) e ∙ ap (λ (i : List ℕ). Ok (i, rest)) (sym (spelled_id id digits h))
-
-pub id_err : (bytes : List ℕ) (d : ReadError) → Fails d (passing_at is_hex_digit 40 bytes) → Fails d (id_from bytes)
-unfolding id_from
-id_err bytes errors.Memory e = tt
-id_err bytes (errors.Stopped n) e = ap (λ (r : Result (List ℕ × List ℕ) ℕ). r >>= λ x. Ok (id_of x.0, x.1)) e
+-- ---- what the program makes of lines
 
 pub header_ok : (s : Bool) (bytes w rest : List ℕ) → span_at (may_header s) 10 bytes ≡ Ok (w, rest) → eqb (length w) 0 ≡ false → header_from s bytes ≡ Ok (w, rest)
 unfolding header_from

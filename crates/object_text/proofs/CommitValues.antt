@@ -10,8 +10,12 @@ use Rattle.grammar.proofs.Passing.{and_true}
 use Rattle.object_text.specs.declared.commit.Commit.{Commit}
 use Rattle.hex.specs.Hex.{IsBytes, encode_lower}
 use Rattle.hex.proofs.HexLemmas.{decode_of-encode_lower}
+use Rattle.ident_text.specs.declared.ident.Ident.{Ident}
+use Rattle.ident_text.specs.Idents.{IsIdent}
+use Rattle.ident_text.specs.ReadIdents.{ReadsAsIdent}
+use Rattle.ident_text.proofs.IdentLaws.{reads_as}
 use Rattle.seq_base.specs.Ids.{SpellsId}
-use Rattle.object_text.specs.Commits.{line, is_in_line, is_continuation, is_header_line, AreHeaders, continued, encoding_of, SpellIds, is_header_value, IsEncoding, IsCommit, IsCommitValue, encoding_text, commit_text}
+use Rattle.object_text.specs.Commits.{line, is_in_line, is_continuation, is_header_line, AreHeaders, continued, encoding_of, SpellIds, is_header_value, IsEncoding, IsCommit, IsCommitValue, encoding_text, commit_text, with_author}
 
 -- lines that continue a header may stand behind bytes of one line
 continued_value : (hs : List (List ℕ)) → list_all is_header_line hs ≡ true → (is_header_value (continued hs) ≡ true) × ((a : List ℕ) → list_all is_in_line a ≡ true → is_header_value (a ++ continued hs) ≡ true)
@@ -224,3 +228,13 @@ spelled_more ids i id lt is one before =
 pub parts_written : (start one two three four five six a b c d e f : List ℕ) → start ≡ [] → one ≡ start ++ a → two ≡ one ++ b → three ≡ two ++ c → four ≡ three ++ d → five ≡ four ++ e → six ≡ five ++ f → six ≡ ((((a ++ b) ++ c) ++ d) ++ e) ++ f
 parts_written start one two three four five six a b c d e f p0 p1 p2 p3 p4 p5 p6 =
     p6 ∙ ap (λ (t : List ℕ). t ++ f) (p5 ∙ ap (λ (t : List ℕ). t ++ e) (p4 ∙ ap (λ (t : List ℕ). t ++ d) (p3 ∙ ap (λ (t : List ℕ). t ++ c) (p2 ∙ ap (λ (t : List ℕ). t ++ b) (p1 ∙ ap (λ (t : List ℕ). t ++ a) p0)))))
+
+-- an ident's text may be that of an author
+pub by_author : (c : Commit) (ident : Ident) (text : List ℕ) → IsCommitValue c → IsIdent ident text → IsCommitValue (with_author text c)
+by_author c ident text value is = record { author = (ident, is); committer = value.committer; encoding = value.encoding }
+
+pub author_reads : (c : Commit) → IsCommitValue c → ReadsAsIdent c.author
+author_reads c value = reads_as c.author value.author
+
+pub committer_reads : (c : Commit) → IsCommitValue c → ReadsAsIdent c.committer
+committer_reads c value = reads_as c.committer value.committer

@@ -2,9 +2,11 @@ pub mod Modes
 pub mod Names
 pub mod Tied
 pub mod Entries
-pub mod IdentLaws
 pub mod CommitLaws
 pub mod CommitLoops
 pub mod CommitValues
 pub mod ObjectLaws
 pub mod Lengths
+pub mod TagLaws
+pub mod KeptLaws
+pub mod ChainLaws

@@ -4,8 +4,8 @@ use Rattle.std.specs.Prelude.{◌≡◌, ℕ, Bool, true, false, not, ◌&&◌, 
 use Rattle.std.specs.List.{list_all, flat_map, starts_with}
 use Rattle.hex.specs.Hex.{encode_lower}
 use Rattle.seq_base.specs.Ids.{SpellsId}
+use Rattle.ident_text.specs.Idents.{IsIdentText}
 use Rattle.object_text.specs.declared.commit.Commit.{Commit}
-use Rattle.object_text.specs.Idents.{IsIdent}
 
 -- a line, with its line feed
 abbrev pub line : List ℕ → List ℕ
@@ -54,8 +54,8 @@ pub record IsCommit (c : Commit) (bytes : List ℕ) : Type 0 where
   pub headers : List (List ℕ)
   pub is_tree : SpellsId c.tree tree
   pub are_parents : SpellIds c.parents parents
-  pub is_author : IsIdent c.author
-  pub is_committer : IsIdent c.committer
+  pub is_author : IsIdentText c.author
+  pub is_committer : IsIdentText c.committer
   pub are_headers : AreHeaders headers
   pub encoding_is : c.encoding ≡ encoding_of headers
   pub text_is : bytes ≡ line (codes "tree " ++ tree) ++ flat_map (λ parent. line (codes "parent " ++ parent)) parents ++ line (codes "author " ++ c.author) ++ line (codes "committer " ++ c.committer) ++ flat_map line headers ++ 10 ∷ c.message
@@ -72,9 +72,13 @@ IsEncoding (Some v) = is_header_value v ≡ true
 
 -- some text is the commit's
 pub record IsCommitValue (c : Commit) : Type 0 where
-  pub author : IsIdent c.author
-  pub committer : IsIdent c.committer
+  pub author : IsIdentText c.author
+  pub committer : IsIdentText c.committer
   pub encoding : IsEncoding c.encoding
+
+-- a commit by another author
+abbrev pub with_author : List ℕ → Commit → Commit
+with_author author c = record { tree = c.tree; parents = c.parents; author = author; committer = c.committer; encoding = c.encoding; message = c.message }
 
 abbrev pub encoding_text : Option (List ℕ) → List ℕ
 encoding_text None = []

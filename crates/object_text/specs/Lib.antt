@@ -1,11 +1,12 @@
 pub mod Faults
 pub mod Objects
 pub mod Trees
-pub mod Idents
 pub mod Commits
 pub mod ReadTrees
-pub mod ReadIdents
 pub mod ReadCommits
 pub mod ReadObjects
+pub mod Tags
 pub mod Store
+pub mod Kept
 pub mod TreeMaps
+pub mod Chains

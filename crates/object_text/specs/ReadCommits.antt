@@ -1,21 +1,11 @@
 -- Reading a commit from left to right.
 use Rattle.std.specs.Prelude.{◌≡◌, ℕ, Bool, true, false, not, ◌&&◌, ◌||◌, ◌==◌, if◌then◌else◌, List, [], ◌∷◌, ◌++◌, length, codes, Option, Some, None, Result, Ok}
 use Rattle.std.specs.List.{list_all}
-use Rattle.std.specs.Result.{result_unwrap_or}
-use Rattle.hex.specs.Hex.{decode_of, is_hex_digit}
-use Rattle.grammar.specs.Readers.{◌>>=◌, valued_at, literal_at, passing_at, star_at}
+use Rattle.grammar.specs.Readers.{◌>>=◌, valued_at, literal_at, star_at}
+use Rattle.ident_text.specs.Ids.{id_from}
+use Rattle.ident_text.specs.ReadIdents.{ident_text_from}
 use Rattle.object_text.specs.declared.commit.Commit.{Commit}
 use Rattle.object_text.specs.Commits.{is_in_line, is_continuation, is_header_line, continued, encoding_of}
-use Rattle.object_text.specs.ReadIdents.{ident_from}
-
--- the bytes of hex digits
-abbrev pub id_of : List ℕ → List ℕ
-id_of digits = result_unwrap_or (decode_of digits) []
-
-unfoldable pub id_from : List ℕ → Result (List ℕ × List ℕ) ℕ
-id_from bytes = do
-  digits ← passing_at is_hex_digit 40 bytes
-  Ok (id_of digits.0, digits.1)
 
 -- a line that begins with a key
 abbrev pub keyed_from : {X : Type 0} → List ℕ → (List ℕ → Result (X × List ℕ) ℕ) → List ℕ → Result (X × List ℕ) ℕ
@@ -32,10 +22,10 @@ unfoldable pub parent_line_from : List ℕ → Result (List ℕ × List ℕ) ℕ
 parent_line_from bytes = keyed_from (codes "parent ") id_from bytes
 
 unfoldable pub author_line_from : List ℕ → Result (List ℕ × List ℕ) ℕ
-author_line_from bytes = keyed_from (codes "author ") ident_from bytes
+author_line_from bytes = keyed_from (codes "author ") ident_text_from bytes
 
 unfoldable pub committer_line_from : List ℕ → Result (List ℕ × List ℕ) ℕ
-committer_line_from bytes = keyed_from (codes "committer ") ident_from bytes
+committer_line_from bytes = keyed_from (codes "committer ") ident_text_from bytes
 
 -- behind is whether a header stands before: only then may a line continue one
 abbrev pub may_header : Bool → List ℕ → Bool

@@ -1,10 +1,11 @@
 -- The objects of a store (gitrepository-layout(5), "objects/[0-9a-f][0-9a-f]"; the text stands in the file as it is; git-hash-object(1)).
-use Rattle.std.specs.Prelude.{ℕ, zero, suc, ◌&&◌, nat_le, if◌then◌else◌, List, [], ◌∷◌, length, codes, Option, Some, None, Result, Ok, Err, option_and_then}
+use Rattle.std.specs.Prelude.{ℕ, zero, suc, ◌&&◌, nat_le, if◌then◌else◌, List, [], ◌∷◌, length, codes, Option, Some, None, Result, Ok, Err, option_and_then, option_map}
 use Rattle.std.specs.FinMap as map
 use Rattle.std.specs.Str.{bytes_eq}
 use Rattle.sha1.specs.Sha1.{sha1}
 use Rattle.grammar.specs.Readers.{◌>>=◌, valued_at, literal_at, run_at}
 use Rattle.grammar.specs.Keywords.{may_of, value_of}
+use Rattle.ident_text.specs.Ids.{id_from}
 use Rattle.seq_base.specs.World.{World}
 use Rattle.seq_base.specs.Repository.{object_path}
 use Rattle.object_text.specs.declared.object.Kind.{Kind}
@@ -16,7 +17,7 @@ use Rattle.object_text.specs.Objects.{object_text}
 use Rattle.object_text.specs.Commits.{is_in_line}
 use Rattle.object_text.specs.ReadObjects.{kinds, object_from}
 use Rattle.object_text.specs.ReadTrees.{tree_from}
-use Rattle.object_text.specs.ReadCommits.{id_from, keyed_from, commit_from}
+use Rattle.object_text.specs.ReadCommits.{keyed_from, commit_from}
 
 -- the value that was read, if there is one
 abbrev pub value_read : {X : Type 0} → Result X ℕ → Option X
@@ -88,7 +89,7 @@ entries_if_tree Tag content = None
 unfoldable pub tree_at : World → List ℕ → Option (List TreeEntry)
 tree_at w id = option_and_then (λ o. entries_if_tree o.kind o.bytes) (object_at w id)
 
--- the id that a tag names (git-mktag(1)): it begins with the lines `object <hex>`, `type <kind>` and `tag <name>`
+-- the id that a tag names, and what stands behind its first lines
 unfoldable pub tagged_from : List ℕ → Result (List ℕ × List ℕ) ℕ
 tagged_from bytes = do
   object ← keyed_from (codes "object ") id_from bytes
@@ -98,10 +99,23 @@ tagged_from bytes = do
   name ← run_at is_in_line 10 tag.1
   Ok (object.0, name.1)
 
+-- the object that a tag names
+unfoldable pub named_of : List ℕ → Option (List ℕ)
+named_of content = option_map (λ t. t.0) (value_read (tagged_from content))
+
+abbrev pub named_if_tag : Kind → List ℕ → Option (List ℕ)
+named_if_tag Tag content = named_of content
+named_if_tag Blob content = None
+named_if_tag Tree content = None
+named_if_tag Commit content = None
+
+unfoldable pub tag_at : World → List ℕ → Option (List ℕ)
+tag_at w id = option_and_then (λ o. named_if_tag o.kind o.bytes) (object_at w id)
+
 -- the commit that a content of a kind is, where behind gives the one behind a tag's object
 abbrev pub commit_if : (List ℕ → Option CommitFields) → Kind → List ℕ → Option CommitFields
 commit_if behind Commit content = commit_of content
-commit_if behind Tag content = option_and_then (λ t. behind t.0) (value_read (tagged_from content))
+commit_if behind Tag content = option_and_then behind (named_of content)
 commit_if behind Blob content = None
 commit_if behind Tree content = None
 

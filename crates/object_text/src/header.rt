@@ -2,37 +2,14 @@
 
 ghost use Rattle.std.specs.Prelude.{◌≡◌, ℕ, List, [], ◌∷◌, ◌++◌, Bool, true, false, not, ◌&&◌, ◌||◌, ◌==◌, length, codes, IfOk, ◌<◌};
 ghost use Rattle.std.specs.List.{list_all};
-ghost use Rattle.hex.specs.Hex.{is_hex_digit};
 ghost use Rattle.grammar.specs.Gives.{Gives};
 ghost use Rattle.grammar.specs.Readers.{begins};
 ghost use Rattle.object_text.specs.Commits.{is_in_line, is_continuation as continues};
-ghost use Rattle.object_text.specs.ReadCommits.{id_from, tree_line_from, parent_line_from, author_line_from, committer_line_from, may_header, header_value, header_from, is_p};
+ghost use Rattle.object_text.specs.ReadCommits.{tree_line_from, parent_line_from, author_line_from, committer_line_from, may_header, header_value, header_from, is_p};
 
-use crate::ident::ident_of;
-use grammar::{ByteTest, ReadError, Scan, behind_literal, passing_front, span_of};
+use grammar::{ReadError, Scan, behind_literal, span_of};
+use ident_text::{id_of, ident_text_of};
 use seq_base::Id;
-
-#[derive(Drop)]
-struct HexDigit;
-
-impl ByteTest for HexDigit {
-    ghost passes = { λ _ b. is_hex_digit b };
-
-    fn is_met(&self, byte: u8) -> bool {
-        byte.is_ascii_hexdigit()
-    }
-}
-
-/// Forty hex digits, as an id.
-fn id_of(bytes: &[u8]) -> Result<(Id, &[u8]), ReadError>
-    ensures { Gives (λ x. (x.0, x.1.now)) result (id_from bytes.now) }
-{
-    let (digits, rest) = passing_front(&HexDigit, 40, bytes)?;
-    match Id::from_hex(digits) {
-        Ok(id) => Ok((id, rest)),
-        Err(_) => unreachable!(),
-    }
-}
 
 /// The id of the tree, from the first line.
 #[tactic(auto, unfolding(crate::specs::ReadCommits::tree_line_from))]
@@ -64,7 +41,7 @@ pub fn author_line_of(bytes: &[u8]) -> Result<(&[u8], &[u8]), ReadError>
     ensures { Gives (λ x. (x.0.now, x.1.now)) result (author_line_from bytes.now) }
 {
     let rest = behind_literal(b"author ", bytes)?;
-    let (ident, rest) = ident_of(rest)?;
+    let (ident, rest) = ident_text_of(rest)?;
     let rest = behind_literal(b"\n", rest)?;
     Ok((ident, rest))
 }
@@ -75,7 +52,7 @@ pub fn committer_line_of(bytes: &[u8]) -> Result<(&[u8], &[u8]), ReadError>
     ensures { Gives (λ x. (x.0.now, x.1.now)) result (committer_line_from bytes.now) }
 {
     let rest = behind_literal(b"committer ", bytes)?;
-    let (ident, rest) = ident_of(rest)?;
+    let (ident, rest) = ident_text_of(rest)?;
     let rest = behind_literal(b"\n", rest)?;
     Ok((ident, rest))
 }

@@ -1,5 +1,5 @@
 -- The id of an object is one: twenty bytes. So its file has its place.
-use Rattle.std.proofs.Common.{◌≡◌, ℕ, zero, suc, ◌<◌, true, false, ◌&&◌, List, [], ◌∷◌, ◌++◌, take, drop, slice_index, codes, refl, ap, ◌∙◌, arith}
+use Rattle.std.proofs.Common.{◌≡◌, ℕ, zero, suc, ◌<◌, true, false, List, [], ◌∷◌, ◌++◌, take, drop, slice_index, codes, refl, ap, ◌∙◌, arith}
 use Rattle.std.specs.Int.{byte_at, bytes_high_first}
 use Rattle.std.specs.List.{AllByRecursion}
 use Rattle.std.specs.Ordering.{eq_by_cmp}
@@ -12,7 +12,7 @@ use Rattle.object_text.specs.Store.{object_id}
 use Rattle.object_text.proofs.Lengths.{length-id}
 use Rattle.seq_base.specs.Paths.{parts}
 use Rattle.seq_base.specs.Repository.{is_file_place, object_path}
-use Rattle.seq_base.specs.Words.{Id, Path}
+use Rattle.seq_base.specs.Words.{Path}
 use Rattle.seq_base.specs.World.{is_below, path_cmp}
 use Rattle.seq_base.proofs.Below.{below_at}
 use Rattle.seq_base.proofs.Objects.{object_has_place}

@@ -1,11 +1,11 @@
 //! Objects and commits by their ids, and the putting of an object, where it is told what is lacked.
 
-ghost use Rattle.std.specs.FinMap as map;
-ghost use Rattle.std.specs.Prelude.{◌≡◌, false, IfOk, IsErrOf, List, ℕ};
+ghost use Rattle.std.specs.Prelude.{◌≡◌, IfOk, IsErrOf};
 ghost use Rattle.object_text.specs.Commits.{IsCommitValue};
 ghost use Rattle.object_text.specs.Store.{object_id};
 ghost use Rattle.seq_outside.specs.Halts.{Gives, halt_cause};
 ghost use Rattle.seq_outside.specs.Seen.{Reads, Writes};
+ghost use Rattle.seq_outside.specs.Store.{StaysOutside};
 ghost use Rattle.seq_outside.specs.Turns.{Turns};
 ghost use Rattle.objects.specs.Causes.{IsPutFault};
 ghost use Rattle.objects.specs.Halts.{HasPutHalt, halt_of_commit, halt_of_object};
@@ -138,7 +138,7 @@ pub fn write_object<S: Store>(
 ) -> Result<Id, Halt<Lack>>
     ensures turns { S.told → Turns (λ id. id) result (object_put (object_of kind bytes.now) (S.seen store.old).content) (S.seen store.new).content }
     ensures id { IfOk result (λ id. id ≡ object_id (object_of kind bytes.now)) }
-    ensures elsewhere { S.told → (path : List ℕ) → is_object_place path ≡ false → map.get (S.seen store.new).content path ≡ map.get (S.seen store.old).content path }
+    ensures elsewhere { S.told → StaysOutside is_object_place (S.seen store.old).content (S.seen store.new).content }
     ensures writes { Writes S.told halt_cause result (S.seen store.old) (S.seen store.new) }
 {
     match put(alloc, store, kind, bytes) {

@@ -3,12 +3,13 @@
 ghost use Rattle.std.specs.Char.{to_ascii_lowercase};
 ghost use Rattle.std.specs.List.{list_all};
 ghost use Rattle.std.specs.Option.{option_to_list};
-ghost use Rattle.std.specs.Prelude.{◌≡◌, ◌≤◌, ◌∷◌, ◌++◌, [], IfErr, IfOk, MatchOption, codes, drop, false, length, map, take, true};
+ghost use Rattle.std.specs.Prelude.{◌≡◌, ◌≤◌, ◌∷◌, ◌++◌, [], IfErr, IfOk, codes, drop, length, map, take, true};
 ghost use Rattle.hex.specs.Hex.{is_hex_digit};
 ghost use Rattle.seq_base.specs.StorePaths.{IsStorePath};
 ghost use Rattle.seq_outside.specs.Seen.{Reads};
 ghost use Rattle.objects.specs.Causes.{IsFaultOrMemory, object_cause};
-ghost use Rattle.objects.specs.Prefixes.{AreIdsWith, IsPrefix, begins_with as begins_with_of, id_of_path as id_in_path, ids_among as ids_among_of, ids_with, is_object_path, is_prefix as is_prefix_of};
+ghost use Rattle.objects.specs.Prefixes.{AreIdsWith, IsIdAt, IsPrefix, ids_with, is_object_path};
+ghost use Rattle.objects.specs.Prefixes.{begins_with as begins_with_of, ids_among as ids_among_of, is_prefix as is_prefix_of};
 
 use crate::fault::ObjectFault;
 use crate::place::path_of;
@@ -41,7 +42,7 @@ fn digits_in(alloc: Global, path: &[u8]) -> Result<Vec<u8>, AllocError>
 
 /// The id of the object whose file has the path.
 fn id_of_path(alloc: Global, path: &[u8]) -> Result<Option<Id>, AllocError>
-    ensures { IfOk result (λ found. MatchOption found (is_object_path path.now ≡ false) (λ id. (is_object_path path.now ≡ true) × (id ≡ id_in_path path.now))) }
+    ensures { IfOk result (IsIdAt path.now) }
 {
     if path.len() != 54 {
         return Ok(None);

@@ -1,14 +1,12 @@
 //! Putting an object.
 
-ghost use Rattle.std.specs.FinMap as map;
-ghost use Rattle.std.specs.Ordering.{eq_by_cmp};
-ghost use Rattle.std.specs.Prelude.{◌≡◌, ◌++◌, false, IfErr, IfOk, List, Some, ℕ};
+ghost use Rattle.std.specs.Prelude.{◌≡◌, ◌++◌, IfErr, IfOk, Some};
 ghost use Rattle.std.specs.Str.{bytes_eq};
 ghost use Rattle.object_text.specs.Store.{object_at, object_id};
 ghost use Rattle.seq_base.specs.Repository.{object_path};
 ghost use Rattle.seq_base.specs.StorePaths.{IsStorePath};
-ghost use Rattle.seq_base.specs.World.{path_cmp};
 ghost use Rattle.seq_outside.specs.Seen.{Writes};
+ghost use Rattle.seq_outside.specs.Store.{StaysElsewhere};
 ghost use Rattle.sha1.specs.Sha1.{sha1};
 ghost use Rattle.objects.specs.Causes.{IsPutFault, object_cause};
 ghost use Rattle.objects.specs.Puts.{HasOther, HasPut, HasTextPut, object_of};
@@ -96,7 +94,7 @@ pub fn put<S: Store>(
 
     // They follow from `put`.
     ensures object { S.told → IfOk result (λ id. object_at (S.seen store.new).content id ≡ Some (object_of kind bytes.now)) }
-    ensures elsewhere { S.told → (other : List ℕ) → eq_by_cmp path_cmp other (object_path (object_id (object_of kind bytes.now))) ≡ false → map.get (S.seen store.new).content other ≡ map.get (S.seen store.old).content other }
+    ensures elsewhere { S.told → StaysElsewhere (object_path (object_id (object_of kind bytes.now))) (S.seen store.old).content (S.seen store.new).content }
     ensures writes { Writes S.told object_cause result (S.seen store.old) (S.seen store.new) }
 {
     if bytes.len() > CONTENT_LIMIT {

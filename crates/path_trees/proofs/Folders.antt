@@ -23,7 +23,10 @@ use Rattle.object_text.specs.declared.tree.TreeEntry.{TreeEntry}
 use Rattle.object_text.specs.TreeMaps.{Listing, OneFile, OneFolder, folder_trees, is_folder, listing_of, root_of, tree_entries, tree_id, tree_object, trees_of}
 use Rattle.object_text.specs.Trees.{HaveIds, IsTreeOrder, is_name}
 use Rattle.objects.specs.Puts.{object_put}
-use Rattle.path_trees.specs.Puts.{GoesOnBehind, HasPut, StaysElsewhere, count_inside, cut, each_put, folder_put, is_inside}
+use Rattle.seq_outside.specs.Store.{StaysOutside}
+use Rattle.seq_outside.proofs.Turning.{same_answer, same_world}
+use Rattle.objects.specs.Named.{is_object_place}
+use Rattle.path_trees.specs.Puts.{GoesOnBehind, HasPut, count_inside, cut, each_put, folder_put, is_inside}
 use Rattle.path_trees.specs.Rows.{Rows}
 use Rattle.path_trees.specs.declared.fault.TreeFault.{TreeFault}
 use Rattle.path_trees.specs.declared.fault.TreeFault.TheVariants.{BadObject, TooLarge, Depth, Blocked, Fault, Memory}
@@ -296,11 +299,8 @@ pub record IsWay (told : Type 0) (skip : ℕ) (rows left : Rows) (entries : List
   pub goes : GoesOnBehind skip left
   pub entries_are : tree_entries (listing_of (cut skip rows)) ≡ entries ++ tree_entries (listing_of (cut skip left))
   pub trees_are : told → each_put (folder_trees (listing_of (cut skip rows))) old ≡ each_put (folder_trees (listing_of (cut skip left))) now
-  pub stays : told → StaysElsewhere old now
+  pub stays : told → StaysOutside is_object_place old now
   pub ids : HaveIds entries → HaveRowIds left → HaveRowIds rows
-
-pub way_starts : (told : Type 0) (skip : ℕ) (rows : Rows) (w : World) → GoesOnBehind skip rows → IsWay told skip rows rows [] w w
-way_starts told skip rows w goes = record { goes = goes; entries_are = refl; trees_are = λ t. refl; stays = λ t path other. refl; ids = λ own all. all }
 
 pub way_file : (told : Type 0) (skip : ℕ) (rows left after : Rows) (x : List ℕ × Entry) (path : List ℕ) (entries : List TreeEntry) (old now : World)
     → IsWay told skip rows left entries old now → left ≡ x ∷ after → path ≡ drop skip x.0 → position (λ b. b == 47) path ≡ None
@@ -326,24 +326,28 @@ subtree_first w its others folder =
     ap (λ (trees : List (List TreeEntry)). each_put trees w) (sym (append_assoc (folder_trees its) (tree_entries its ∷ []) (folder_trees others))) ∙ each_put-append (folder_trees its ++ tree_entries its ∷ []) (folder_trees others) w
 
 -- the trees of a folder that was put, and of one that was not
-pub was_folder_put : (rows : Rows) (w : World) (id : Id) (now : World) → folder_put rows w ≡ Ok (id, now) → each_put (trees_of rows) w ≡ Ok (unit, now)
+pub was_folder_put : (rows : Rows) (w : World) (id : Id) (now : World) → folder_put rows w ≡ (Ok id, now) → each_put (trees_of rows) w ≡ (Ok unit, now)
 unfolding folder_put
 was_folder_put rows w id now is = by (each_put (trees_of rows) w) is
   where
-    by : (put : Result (Unit {0} × World) Lack) → go_on put (λ all. gives (root_of rows)) ≡ Ok (id, now) → put ≡ Ok (unit, now)
-    by (Ok turned) is = let both : (root_of rows, turned.1) ≡ (id, now) = cc in ap (λ (p : Id × World). Ok (unit, p.1)) both
-    by (Err why) is = absurd cc
+    by : (put : Result (Unit {0}) Lack × World) → go_on put (λ all. gives (root_of rows)) ≡ (Ok id, now) → put ≡ (Ok unit, now)
+    by (Ok all, v) is = ap (λ (u : World). (Ok unit, u)) (same_world is)
+    by (Err why, v) is = let never = same_answer is in absurd cc
 
-was_not_put : (rows : Rows) (w : World) (why : Lack) → folder_put rows w ≡ Err why → each_put (trees_of rows) w ≡ Err why
+was_not_put : (rows : Rows) (w : World) (why : Lack) (now : World) → folder_put rows w ≡ (Err why, now) → each_put (trees_of rows) w ≡ (Err why, now)
 unfolding folder_put
-was_not_put rows w why is = by (each_put (trees_of rows) w) is
+was_not_put rows w why now is = by (each_put (trees_of rows) w) is
   where
-    by : (put : Result (Unit {0} × World) Lack) → go_on put (λ all. gives (root_of rows)) ≡ Err why → put ≡ Err why
-    by (Ok turned) is = absurd cc
-    by (Err other) is = let same : other ≡ why = cc in ap (λ (l : Lack). Err l) same
+    by : (put : Result (Unit {0}) Lack × World) → go_on put (λ all. gives (root_of rows)) ≡ (Err why, now) → put ≡ (Err why, now)
+    by (Ok all, v) is = let never = same_answer is in absurd cc
+    by (Err other, v) is =
+        let reason = same_answer is in
+        let other_is : other ≡ why = cc in
+        let here = same_world is in
+        rw (other_is, here) refl
 
 pub way_folder : (told : Type 0) (skip next : ℕ) (rows left inside others : Rows) (name id : List ℕ) (entries : List TreeEntry) (old now new : World)
-    → IsWay told skip rows left entries old now → HasGroup name skip next left inside others → id ≡ root_of (cut next inside) → (told → StaysElsewhere now new) → HaveRowIds inside
+    → IsWay told skip rows left entries old now → HasGroup name skip next left inside others → id ≡ root_of (cut next inside) → (told → StaysOutside is_object_place now new) → HaveRowIds inside
     → (told → HasPut (Ok id) (folder_put (cut next inside) now) new) → IsWay told skip rows others (entries ++ record { mode = Folder; name = name; id = id } ∷ []) old new
 unfolding tree_entries root_of trees_of
 way_folder told skip next rows left inside others name id entries old now new way group root stays inner_ids put = record {
@@ -357,19 +361,19 @@ way_folder told skip next rows left inside others name id entries old now new wa
       way.trees_are t
       ∙ (ap (λ (l : Listing). each_put (folder_trees l) now) group.listed
       ∙ (subtree_first now (listing_of (cut next inside)) (listing_of (cut skip others)) name
-      ∙ ap (λ (r : Result (Unit {0} × World) Lack). go_on r (λ all. each_put (folder_trees (listing_of (cut skip others))))) (was_folder_put (cut next inside) now id new (put t))));
+      ∙ ap (λ (r : Result (Unit {0}) Lack × World). go_on r (λ all. each_put (folder_trees (listing_of (cut skip others))))) (was_folder_put (cut next inside) now id new (put t))));
   stays = λ t path other. stays t path other ∙ way.stays t path other;
   ids = λ own all. way.ids (split_ids entries (record { mode = Folder; name = name; id = id } ∷ []) own).0 (subst HaveRowIds (sym group.whole) (join_ids inside others inner_ids all));
 }
 
 -- what is answered of one step is answered of another, where they stop alike
-stops_alike : (means later : Result (Id × World) Lack) (e : TreeFault) (now new : World) → ((why : Lack) → means ≡ Err why → later ≡ Err why) → HasPut (Err e) means now → HasPut (Err e) later new
-stops_alike means later (BadObject id) now new alike is = alike _ is
-stops_alike means later (TooLarge count) now new alike is = alike _ is
-stops_alike means later Depth now new alike is = alike _ is
-stops_alike means later (Blocked path) now new alike is = alike _ is
-stops_alike means later Fault now new alike is = tt
-stops_alike means later Memory now new alike is = tt
+stops_alike : (means later : Result Id Lack × World) (e : TreeFault) (new : World) → ((why : Lack) → means ≡ (Err why, new) → later ≡ (Err why, new)) → HasPut (Err e) means new → HasPut (Err e) later new
+stops_alike means later (BadObject id) new alike is = alike _ is
+stops_alike means later (TooLarge count) new alike is = alike _ is
+stops_alike means later Depth new alike is = alike _ is
+stops_alike means later (Blocked path) new alike is = alike _ is
+stops_alike means later Fault new alike is = tt
+stops_alike means later Memory new alike is = tt
 
 all_trees : (w : World) (listing : Listing) → each_put (folder_trees listing ++ tree_entries listing ∷ []) w ≡ go_on (each_put (folder_trees listing) w) (λ put. each_put (tree_entries listing ∷ []))
 all_trees w listing = each_put-append (folder_trees listing) (tree_entries listing ∷ []) w
@@ -377,26 +381,26 @@ all_trees w listing = each_put-append (folder_trees listing) (tree_entries listi
 pub way_stops : (told : Type 0) (skip next : ℕ) (rows left inside others : Rows) (name : List ℕ) (entries : List TreeEntry) (old now : World) (e : TreeFault) (new : World)
     → IsWay told skip rows left entries old now → HasGroup name skip next left inside others → told → HasPut (Err e) (folder_put (cut next inside) now) new → HasPut (Err e) (folder_put (cut skip rows) old) new
 unfolding trees_of folder_put
-way_stops told skip next rows left inside others name entries old now e new way group t put = stops_alike (folder_put (cut next inside) now) (folder_put (cut skip rows) old) e new new stops put
+way_stops told skip next rows left inside others name entries old now e new way group t put = stops_alike (folder_put (cut next inside) now) (folder_put (cut skip rows) old) e new stops put
   where
-    stops : (why : Lack) → folder_put (cut next inside) now ≡ Err why → folder_put (cut skip rows) old ≡ Err why
+    stops : (why : Lack) → folder_put (cut next inside) now ≡ (Err why, new) → folder_put (cut skip rows) old ≡ (Err why, new)
     stops why is =
-        let folders : each_put (folder_trees (listing_of (cut skip rows))) old ≡ Err why =
+        let folders : each_put (folder_trees (listing_of (cut skip rows))) old ≡ (Err why, new) =
         way.trees_are t
         ∙ (ap (λ (l : Listing). each_put (folder_trees l) now) group.listed
         ∙ (subtree_first now (listing_of (cut next inside)) (listing_of (cut skip others)) name
-        ∙ ap (λ (r : Result (Unit {0} × World) Lack). go_on r (λ all. each_put (folder_trees (listing_of (cut skip others))))) (was_not_put (cut next inside) now why is))) in
-        ap (λ (r : Result (Unit {0} × World) Lack). go_on r (λ all. gives (root_of (cut skip rows))))
-        (all_trees old (listing_of (cut skip rows)) ∙ ap (λ (r : Result (Unit {0} × World) Lack). go_on r (λ all. each_put (tree_entries (listing_of (cut skip rows)) ∷ []))) folders)
+        ∙ ap (λ (r : Result (Unit {0}) Lack × World). go_on r (λ all. each_put (folder_trees (listing_of (cut skip others))))) (was_not_put (cut next inside) now why new is))) in
+        ap (λ (r : Result (Unit {0}) Lack × World). go_on r (λ all. gives (root_of (cut skip rows))))
+        (all_trees old (listing_of (cut skip rows)) ∙ ap (λ (r : Result (Unit {0}) Lack × World). go_on r (λ all. each_put (tree_entries (listing_of (cut skip rows)) ∷ []))) folders)
 
 -- at the end the folder's own tree comes
 ends_with_tree : (told : Type 0) (skip : ℕ) (rows : Rows) (entries : List TreeEntry) (old now : World) → IsWay told skip rows [] entries old now → told
     → folder_put (cut skip rows) old ≡ go_on (go_on (object_put (tree_object (tree_entries (listing_of (cut skip rows)))) now) (λ id. gives unit)) (λ all. gives (root_of (cut skip rows)))
 unfolding trees_of folder_trees listing_of folder_put
 ends_with_tree told skip rows entries old now way t =
-    ap (λ (r : Result (Unit {0} × World) Lack). go_on r (λ all. gives (root_of (cut skip rows))))
+    ap (λ (r : Result (Unit {0}) Lack × World). go_on r (λ all. gives (root_of (cut skip rows))))
     (all_trees old (listing_of (cut skip rows))
-    ∙ (ap (λ (r : Result (Unit {0} × World) Lack). go_on r (λ all. each_put (tree_entries (listing_of (cut skip rows)) ∷ []))) (way.trees_are t ∙ each_put-none now)
+    ∙ (ap (λ (r : Result (Unit {0}) Lack × World). go_on r (λ all. each_put (tree_entries (listing_of (cut skip rows)) ∷ []))) (way.trees_are t ∙ each_put-none now)
     ∙ each_put-one (tree_entries (listing_of (cut skip rows))) now))
 
 pub all_entries : (told : Type 0) (skip : ℕ) (rows : Rows) (entries : List TreeEntry) (old now : World) → IsWay told skip rows [] entries old now → tree_entries (listing_of (cut skip rows)) ≡ entries
@@ -415,16 +419,16 @@ way_root told skip rows entries old now (Ok id) way is = is ∙ root_is told ski
 way_root told skip rows entries old now (Err e) way is = tt
 
 -- what is answered of the last tree is answered of all
-tree_ends : (root : Id) (means : Result (Id × World) Lack) (r : Result Id TreeFault) (new : World) → IfOk r (λ id. id ≡ root) → HasPut r means new → HasPut r (go_on (go_on means (λ id. gives unit)) (λ all. gives root)) new
-tree_ends root means (Ok id) new root_is put = rw put (ap (λ (i : Id). Ok (i, new)) (sym root_is))
-tree_ends root means (Err e) new root_is put = stops_alike means (go_on (go_on means (λ id. gives unit)) (λ all. gives root)) e new new (λ why is. rw is refl) put
+tree_ends : (root : Id) (means : Result Id Lack × World) (r : Result Id TreeFault) (new : World) → IfOk r (λ id. id ≡ root) → HasPut r means new → HasPut r (go_on (go_on means (λ id. gives unit)) (λ all. gives root)) new
+tree_ends root means (Ok id) new root_is put = rw put (ap (λ (i : Id). (Ok i, new)) (sym root_is))
+tree_ends root means (Err e) new root_is put = stops_alike means (go_on (go_on means (λ id. gives unit)) (λ all. gives root)) e new (λ why is. rw is refl) put
 
 pub way_ends : (told : Type 0) (skip : ℕ) (rows : Rows) (entries : List TreeEntry) (old now : World) (r : Result Id TreeFault) (new : World) → IsWay told skip rows [] entries old now → told → IfOk r (λ id. id ≡ tree_id entries)
     → HasPut r (object_put (tree_object entries) now) new → HasPut r (folder_put (cut skip rows) old) new
 way_ends told skip rows entries old now r new way t root put =
     let entries_are = all_entries told skip rows entries old now way in
     let last = subst (λ (es : List TreeEntry). HasPut r (object_put (tree_object es) now) new) (sym entries_are) put in
-    subst (λ (m : Result (Id × World) Lack). HasPut r m new) (sym (ends_with_tree told skip rows entries old now way t))
+    subst (λ (m : Result Id Lack × World). HasPut r m new) (sym (ends_with_tree told skip rows entries old now way t))
     (tree_ends (root_of (cut skip rows)) (object_put (tree_object (tree_entries (listing_of (cut skip rows)))) now) r new (way_root told skip rows entries old now r way root) last)
 
 pub nothing : (rows : Rows) → length rows ≡ 0 → rows ≡ []

@@ -1,5 +1,5 @@
 -- What is told of what was read of a tree, and of trees that were not put.
-use Rattle.std.proofs.Common.{◌≡◌, ℕ, ◌<◌, ◌≤◌, Bool, true, false, length, Option, Some, None, Result, Ok, Err, refl, subst, ◌∙◌, arith}
+use Rattle.std.proofs.Common.{◌≡◌, ℕ, Bool, true, false, length, Option, Some, None, Result, Ok, Err, refl, subst, ◌∙◌, arith}
 use Rattle.std.specs.Prelude.{nat_le, option_and_then}
 use Rattle.std.specs.FinMap as held
 use Rattle.std.proofs.lemmas.Bool.Decides.{nat_tests}
@@ -15,8 +15,9 @@ use Rattle.seq_base.specs.Words.{Id, Text}
 use Rattle.seq_base.specs.World.{World}
 use Rattle.seq_outside.specs.Halts.{Denies, halt_cause}
 use Rattle.seq_outside.specs.Causes.{Rose}
-use Rattle.seq_outside.specs.Seen.{Cause, HasCause, HasReadCause, Seen, Stays}
+use Rattle.seq_outside.specs.Seen.{Cause, HasCause, HasReadCause, NoneBlocked, Seen, Stays}
 use Rattle.seq_outside.specs.Seen.Cause.{ByBlock, ByEither, ByFault, ByNone}
+use Rattle.seq_outside.specs.Turns.{Turns}
 use Rattle.seq_outside.specs.declared.lack.Lack.{Lack}
 use Rattle.path_trees.specs.Faults.{tree_cause}
 use Rattle.path_trees.specs.Halts.{halt_of_put, halt_of_read}
@@ -59,7 +60,7 @@ map_err w id Fault is = tt
 map_err w id Memory is = tt
 
 -- what is told of trees that were not put
-pub not_put : (fault : TreeFault) (means : Result (Id × World) Lack) (now : World) → HasPut (Err fault) means now → Denies {Y = Id × World} (halt_of_put fault) means
+pub not_put : (fault : TreeFault) (means : Result Id Lack × World) (now : World) → HasPut (Err fault) means now → Turns {X = Id} {Y = Id} (λ id. id) (Err (halt_of_put fault)) means now
 not_put (BadObject id) means now is = is
 not_put (TooLarge count) means now is = is
 not_put Depth means now is = is
@@ -85,12 +86,15 @@ stays_after told old now new first then =
     let lends = then.2 in
     (omega (arith, before, after), then.1 ∙ first.1, omega (arith, lent, lends), λ t. then.3 t ∙ first.3 t)
 
+none_blocked : (old now new : Seen) → NoneBlocked old now → NoneBlocked now new → NoneBlocked old new
+none_blocked old now new first then = (then.0 ∙ first.0, then.1 ∙ first.1)
+
 -- a call that reads, after another that did
 pub read_after : (told : Type 0) (old now new : Seen) (cause : Cause) → HasReadCause told ByNone old now → HasReadCause told cause now new → HasReadCause told cause old new
-read_after told old now new ByNone first then = (then.0 ∙ first.0, stays_after told old now new first.1 then.1)
+read_after told old now new ByNone first then = (then.0 ∙ first.0, none_blocked old now new first.1 then.1, stays_after told old now new first.2 then.2)
 read_after told old now new ByFault first then =
     let least = then.0 in
     let same = first.0 in
-    (omega (arith, least, same), subst (λ (n : ℕ). Rose n new.faults) same then.1, stays_after told old now new first.1 then.2)
+    (omega (arith, least, same), subst (λ (n : ℕ). Rose n new.faults) same then.1, none_blocked old now new first.1 then.2, stays_after told old now new first.2 then.3)
 read_after told old now new ByBlock first then = absurd then
 read_after told old now new ByEither first then = absurd then

@@ -79,7 +79,7 @@ names : (s t : Bool) (ra rb a b : List ℕ) → has_no_slash a ≡ true → has_
 names s t ra rb [] [] ha hb other less = absurd cc
 names true t ra rb [] (y ∷ b) ha hb other less = heads 47 y [] (b ++ tail t []) ra (b ++ tail t rb) (swapped y 47 (no_slash y b hb)) less
 names false t ra rb [] (y ∷ b) ha hb other less =
-    let away : (47 == y) ≡ false = swapped y 47 (no_slash y b hb) in
+    let away : (y == 47) ≡ false = no_slash y b hb in
     record { less = refl; free = rw away refl }
 names s true ra rb (x ∷ a) [] ha hb other less = heads x 47 (a ++ tail s []) [] (a ++ tail s ra) rb (no_slash x a ha) less
 names s false ra rb (x ∷ a) [] ha hb other less = absurd cc

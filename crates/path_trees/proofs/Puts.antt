@@ -1,5 +1,5 @@
 -- Putting one tree, and putting trees one after another.
-use Rattle.std.proofs.Common.{◌≡◌, ℕ, ◌<◌, ◌≤◌, Bool, true, false, cond, nat_lt, List, [], ◌∷◌, ◌++◌, length, map, Option, Some, None, Result, Ok, Err, refl, sym, ap, ◌∙◌, arith}
+use Rattle.std.proofs.Common.{◌≡◌, ℕ, ◌≤◌, Bool, true, false, cond, nat_lt, List, [], ◌∷◌, ◌++◌, length, map, Option, Some, None, Result, Ok, Err, refl, sym, ap, ◌∙◌, arith}
 use Rattle.std.specs.Prelude.{if◌then◌else◌}
 use Rattle.std.specs.FinMap as held
 use Rattle.std.specs.Str.{bytes_eq}
@@ -23,9 +23,9 @@ use Rattle.objects.specs.Puts.{HasPut as HasObjectPut, object_over, object_put}
 use Rattle.objects.specs.declared.fault.ObjectFault.{ObjectFault}
 use Rattle.objects.specs.declared.fault.ObjectFault.TheVariants as objects
 use Rattle.objects.proofs.Putting.{object_is_not_put}
+use Rattle.seq_outside.proofs.Turning.{same_answer, same_world}
 use Rattle.path_trees.specs.Puts.{HasPut, each_put}
 use Rattle.path_trees.specs.Faults.{put_fault_at}
-use Rattle.path_trees.specs.declared.fault.TreeFault.{TreeFault}
 
 -- ---- one tree
 
@@ -50,12 +50,12 @@ unfolding each_put
 each_put-append [] back w = refl
 each_put-append (tree ∷ front) back w = by (object_put (tree_object tree) w) (λ next. each_put-append front back next)
   where
-    by : (put : Result (Id × World) Lack) → ((next : World) → each_put (front ++ back) next ≡ go_on (each_put front next) (λ all. each_put back))
+    by : (put : Result Id Lack × World) → ((next : World) → each_put (front ++ back) next ≡ go_on (each_put front next) (λ all. each_put back))
         → go_on put (λ id. each_put (front ++ back)) ≡ go_on (go_on put (λ id. each_put front)) (λ all. each_put back)
-    by (Ok turned) more = more turned.1
-    by (Err why) more = refl
+    by (Ok id, v) more = more v
+    by (Err why, v) more = refl
 
-pub each_put-none : (w : World) → each_put [] w ≡ Ok (unit, w)
+pub each_put-none : (w : World) → each_put [] w ≡ (Ok unit, w)
 unfolding each_put
 each_put-none w = refl
 
@@ -65,7 +65,7 @@ each_put-one tree w = refl
 
 -- ---- as objects that are put
 
-module _ (w : World) (tree : List TreeEntry) (turned : Id × World) where
+module _ (w : World) (tree : List TreeEntry) (id : Id) (now : World) where
   abbrev o : Object
   o = tree_object tree
 
@@ -75,38 +75,38 @@ module _ (w : World) (tree : List TreeEntry) (turned : Id × World) where
   abbrev text : Text
   text = object_text o
 
-  free : (b : Bool) → go_on (if b then Err (Way path) else Ok (unit, held.insert w path text)) (λ put. gives (object_id o)) ≡ Ok turned → unless_taken (record { world = held.insert w path text; collision = None }) ≡ Ok turned.1
-  free true put = absurd cc
-  free false put = let same : turned ≡ (object_id o, held.insert w path text) = cc in ap (λ (t : Id × World). Ok t.1) (sym same)
+  free : (b : Bool) → go_on (if b then (Err (Way path), w) else (Ok unit, held.insert w path text)) (λ put. gives (object_id o)) ≡ (Ok id, now) → unless_taken (record { world = held.insert w path text; collision = None }) ≡ Ok now
+  free true put = let never = same_answer put in absurd cc
+  free false put = ap Ok (same_world put)
 
-  same_text : (b : Bool) → looked (if b then Ok (object_id o) else Err (Place (object_id o))) w ≡ Ok turned → unless_taken (record { world = w; collision = cond b None (Some (object_id o)) }) ≡ Ok turned.1
-  same_text true put = let same : turned ≡ (object_id o, w) = cc in ap (λ (t : Id × World). Ok t.1) (sym same)
-  same_text false put = absurd cc
+  same_text : (b : Bool) → looked (if b then Ok (object_id o) else Err (Place (object_id o))) w ≡ (Ok id, now) → unless_taken (record { world = w; collision = cond b None (Some (object_id o)) }) ≡ Ok now
+  same_text true put = ap Ok (same_world put)
+  same_text false put = let never = same_answer put in absurd cc
 
-  over : (file : Option Text) → object_over o file w ≡ Ok turned → unless_taken (put_at w (object_id o) path text file) ≡ Ok turned.1
+  over : (file : Option Text) → object_over o file w ≡ (Ok id, now) → unless_taken (put_at w (object_id o) path text file) ≡ Ok now
   unfolding put_in
   over None put = free (is_blocked w path) put
   over (Some kept) put = same_text (bytes_eq kept text) put
 
-  by_size : (above : Bool) → go_on (looked (stop_if above (Limit ObjectBytes (length (tree_text tree)))) w) (λ small. looks (λ v. Ok (held.get v path)) >>= object_over o) ≡ Ok turned
-      → cond above (Err (IsLarge (length (tree_text tree)))) (unless_taken (put_at w (object_id o) path text (held.get w path))) ≡ Ok turned.1
-  by_size true put = absurd cc
+  by_size : (above : Bool) → go_on (looked (stop_if above (Limit ObjectBytes (length (tree_text tree)))) w) (λ small. looks (λ v. Ok (held.get v path)) >>= object_over o) ≡ (Ok id, now)
+      → cond above (Err (IsLarge (length (tree_text tree)))) (unless_taken (put_at w (object_id o) path text (held.get w path))) ≡ Ok now
+  by_size true put = let never = same_answer put in absurd cc
   by_size false put = over (held.get w path) put
 
   -- a tree that is put is not too large, and no other text stands in its file
-  one_put : object_put (tree_object tree) w ≡ Ok turned → put_tree w tree ≡ Ok turned.1
+  one_put : object_put (tree_object tree) w ≡ (Ok id, now) → put_tree w tree ≡ Ok now
   unfolding put_tree object_put put_object
   one_put put = by_size (nat_lt content_limit (length (tree_text tree))) put
 
-pub each_was_put : (trees : List (List TreeEntry)) (w : World) (turned : Unit {0} × World) → each_put trees w ≡ Ok turned → put_trees w trees ≡ Ok turned.1
+pub each_was_put : (trees : List (List TreeEntry)) (w now : World) → each_put trees w ≡ (Ok unit, now) → put_trees w trees ≡ Ok now
 unfolding each_put put_trees
-each_was_put [] w turned is = let same : turned ≡ (unit, w) = cc in ap (λ (t : Unit {0} × World). Ok t.1) (sym same)
-each_was_put (tree ∷ trees) w turned is = by (object_put (tree_object tree) w) refl (λ next. each_was_put trees next turned) is
+each_was_put [] w now is = ap Ok (same_world is)
+each_was_put (tree ∷ trees) w now is = by (object_put (tree_object tree) w) refl (λ next. each_was_put trees next now) is
   where
-    by : (put : Result (Id × World) Lack) → object_put (tree_object tree) w ≡ put → ((next : World) → each_put trees next ≡ Ok turned → put_trees next trees ≡ Ok turned.1) → go_on put (λ id. each_put trees) ≡ Ok turned
-        → and_then (put_tree w tree) (λ next. put_trees next trees) ≡ Ok turned.1
-    by (Ok first) is more put = ap (λ (r : Result World PutFault). and_then r (λ next. put_trees next trees)) (one_put w tree first is) ∙ more first.1 put
-    by (Err why) is more put = absurd cc
+    by : (put : Result Id Lack × World) → object_put (tree_object tree) w ≡ put → ((next : World) → each_put trees next ≡ (Ok unit, now) → put_trees next trees ≡ Ok now) → go_on put (λ id. each_put trees) ≡ (Ok unit, now)
+        → and_then (put_tree w tree) (λ next. put_trees next trees) ≡ Ok now
+    by (Ok id, v) is more put = ap (λ (r : Result World PutFault). and_then r (λ next. put_trees next trees)) (one_put w tree id v is) ∙ more v put
+    by (Err why, v) is more put = let never = same_answer put in absurd cc
 
 -- ---- what was put
 

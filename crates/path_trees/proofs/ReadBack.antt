@@ -265,13 +265,13 @@ written_back w now rows is paths ids low put =
 
 -- as if the objects of the trees were put
 pub objects_put : (rows : Rows) (w now : World) (r : Result Id TreeFault) → HasPut r (folder_put rows w) now → OnOk r (put_all w (map tree_object (trees_of rows)) ≡ record { world = now; collision = None })
-objects_put rows w now (Ok id) put = all_put w (trees_of rows) now (each_was_put (trees_of rows) w (unit, now) (was_folder_put rows w id now put))
+objects_put rows w now (Ok id) put = all_put w (trees_of rows) now (each_was_put (trees_of rows) w now (was_folder_put rows w id now put))
 objects_put rows w now (Err e) put = tt
 
 -- the map of the root is the map
 pub reads_back : (rows : Rows) (w now : World) (r : Result Id TreeFault) → IsPathMap rows → AllByRecursion (λ e. IsPath e.0) rows → OnOk r (HaveRowIds rows) → is_too_deep rows ≡ false → IfOk r (λ root. root ≡ root_of rows)
     → HasPut r (folder_put rows w) now → IfOk r (λ root. map_at now root ≡ Ok rows)
-reads_back rows w now (Ok id) is paths ids low root put = ap (map_at now) root ∙ written_back w now rows is paths ids low (each_was_put (trees_of rows) w (unit, now) (was_folder_put rows w id now put))
+reads_back rows w now (Ok id) is paths ids low root put = ap (map_at now) root ∙ written_back w now rows is paths ids low (each_was_put (trees_of rows) w now (was_folder_put rows w id now put))
 reads_back rows w now (Err e) is paths ids low root put = tt
 
 -- a map none of whose trees lies too deep, and another
@@ -279,6 +279,6 @@ pub shallow_put : (rows : Rows) (w : World) → is_too_deep rows ≡ false → t
 unfolding trees_put
 shallow_put rows w low = rw low refl
 
-pub too_deep : (rows : Rows) (w : World) → is_too_deep rows ≡ true → trees_put rows w ≡ Err (Limit TreeDepth 257)
+pub too_deep : (rows : Rows) (w : World) → is_too_deep rows ≡ true → trees_put rows w ≡ (Err (Limit TreeDepth 257), w)
 unfolding trees_put
 too_deep rows w deep = rw deep refl

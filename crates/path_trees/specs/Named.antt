@@ -1,5 +1,5 @@
 -- The map of a tree and of a commit's tree, or what is lacked.
-use Rattle.std.specs.Prelude.{Result, Ok, Err}
+use Rattle.std.specs.Prelude.{Result}
 use Rattle.object_text.specs.Store.{oversize_at}
 use Rattle.object_text.specs.TreeMaps.{MapFault, BadTree, TooDeep, map_at}
 use Rattle.objects.specs.Named.{commit_named, no_object}

@@ -1,18 +1,18 @@
 -- What writing the trees of a map does (git-write-tree(1)).
-use Rattle.std.specs.Prelude.{◌≡◌, ◌==◌, ℕ, ◌≤◌, Bool, true, false, List, [], ◌∷◌, drop, length, map, not, Result, Ok, Err}
-use Rattle.std.specs.FinMap as held
+use Rattle.std.specs.Prelude.{◌≡◌, ◌==◌, ℕ, ◌≤◌, Bool, true, List, [], ◌∷◌, None, drop, length, map, not, Result, Ok, Err}
 use Rattle.std.specs.List.{AllByRecursion, list_all, position_or_len, starts_with}
-use Rattle.objects.specs.Named.{is_object_place}
 use Rattle.seq_base.specs.Paths.{parts}
 use Rattle.seq_base.specs.PathMaps.{IsPathMap}
-use Rattle.seq_base.specs.Words.{Id, Path}
+use Rattle.seq_base.specs.Words.{Id}
 use Rattle.seq_base.specs.World.{World}
 use Rattle.seq_outside.specs.Halts.{stop_if}
 use Rattle.seq_outside.specs.Turns.{◌>>=◌, Turn, gives, looked}
 use Rattle.seq_outside.specs.declared.lack.Lack.{Lack}
 use Rattle.seq_outside.specs.declared.lack.Lack.TheVariants.{Limit, Place, Way}
 use Rattle.seq_outside.specs.declared.limit.LimitWhat.TheVariants.{ObjectBytes, TreeDepth}
+use Rattle.object_text.specs.declared.object.Object.{Object}
 use Rattle.object_text.specs.declared.tree.TreeEntry.{TreeEntry}
+use Rattle.object_text.specs.Store.{put_all}
 use Rattle.object_text.specs.TreeMaps.{is_too_deep, root_of, tree_object, trees_of}
 use Rattle.object_text.specs.Trees.{is_name}
 use Rattle.objects.specs.Puts.{object_put}
@@ -43,19 +43,19 @@ trees_put rows = do
 
 -- ---- what is answered
 
--- The id that is meant, and the world then; or why a tree was not put. Of a fault of the store and of want of memory nothing is said.
-abbrev pub HasPut : Result Id TreeFault → Result (Id × World) Lack → World → Type 0
-HasPut (Ok id) means now = means ≡ Ok (id, now)
-HasPut (Err (BadObject id)) means now = means ≡ Err (Place id)
-HasPut (Err (TooLarge length)) means now = means ≡ Err (Limit ObjectBytes length)
-HasPut (Err Depth) means now = means ≡ Err (Limit TreeDepth 257)
-HasPut (Err (Blocked path)) means now = means ≡ Err (Way path)
+-- The id that is meant, or why a tree was not put, and the world that is left. Of a fault of the store and of want of memory nothing is said.
+abbrev pub HasPut : Result Id TreeFault → Result Id Lack × World → World → Type 0
+HasPut (Ok id) means now = means ≡ (Ok id, now)
+HasPut (Err (BadObject id)) means now = means ≡ (Err (Place id), now)
+HasPut (Err (TooLarge length)) means now = means ≡ (Err (Limit ObjectBytes length), now)
+HasPut (Err Depth) means now = means ≡ (Err (Limit TreeDepth 257), now)
+HasPut (Err (Blocked path)) means now = means ≡ (Err (Way path), now)
 HasPut (Err Fault) means now = Unit {0}
 HasPut (Err Memory) means now = Unit {0}
 
--- each path that is not about objects is as before
-abbrev pub StaysElsewhere : World → World → Type 0
-StaysElsewhere old new = (path : Path) → is_object_place path ≡ false → held.get new path ≡ held.get old path
+-- the objects were put, one after another, and none met another text
+abbrev pub AllPut : World → List Object → World → Type 0
+AllPut old objects new = put_all old objects ≡ record { world = new; collision = None }
 
 -- ---- the rows of a folder
 

@@ -4,10 +4,12 @@ ghost use Rattle.std.specs.Prelude.{◌≡◌, IfOk};
 ghost use Rattle.object_text.specs.TreeMaps.{root_of};
 ghost use Rattle.seq_outside.specs.Halts.{Gives, halt_cause};
 ghost use Rattle.seq_outside.specs.Seen.{Reads, Writes};
+ghost use Rattle.seq_outside.specs.Store.{StaysOutside};
 ghost use Rattle.seq_outside.specs.Turns.{Turns};
 ghost use Rattle.path_trees.specs.Halts.{halt_of_put, halt_of_read};
 ghost use Rattle.path_trees.specs.Named.{commit_map, map_named};
-ghost use Rattle.path_trees.specs.Puts.{StaysElsewhere, trees_put};
+ghost use Rattle.objects.specs.Named.{is_object_place};
+ghost use Rattle.path_trees.specs.Puts.{trees_put};
 
 use crate::fault::TreeFault;
 use crate::read::read_map;
@@ -83,7 +85,7 @@ fn put_halt(fault: TreeFault) -> Halt<Lack>
 pub fn write_trees<S: Store>(alloc: Global, store: &mut S, map: &PathMap) -> Result<Id, Halt<Lack>>
     ensures turns { S.told → Turns (λ id. id) result (trees_put map.now (S.seen store.old).content) (S.seen store.new).content }
     ensures id { IfOk result (λ id. id ≡ root_of map.now) }
-    ensures elsewhere { S.told → StaysElsewhere (S.seen store.old).content (S.seen store.new).content }
+    ensures elsewhere { S.told → StaysOutside is_object_place (S.seen store.old).content (S.seen store.new).content }
     ensures writes { Writes S.told halt_cause result (S.seen store.old) (S.seen store.new) }
 {
     match write_map(alloc, store, map) {

@@ -55,6 +55,7 @@ fn add_tree<S: Store>(
 /// The map of a tree: what it and the trees below it have at their paths (git-ls-tree(1), `-r`). Of the objects that are met,
 /// a tree before its subtrees and in the order of entries, the first that is no tree, cannot be read, or has an entry whose path
 /// is none is BadObject, or TooLarge where its content passes the limit; a tree below 256 others is Depth.
+#[tactic(auto, unfolding(object_text::specs::TreeMaps::map_at))]
 pub fn read_map<S: Store>(alloc: Global, store: &mut S, tree: Id) -> Result<PathMap, TreeFault>
     ensures gives { S.told → Gives (λ map. map) (S.seen store.old).content result (map_at (S.seen store.old).content tree) }
     ensures reads { Reads S.told tree_cause result (S.seen store.old) (S.seen store.new) }

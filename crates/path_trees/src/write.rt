@@ -1,14 +1,16 @@
 //! Writing the trees of a map.
 
-ghost use Rattle.std.specs.Prelude.{◌≡◌, ◌==◌, ◌↔◌, ◌≤◌, IfOk, IsErrOf, None, Ok, OnOk, length, map as each, true};
+ghost use Rattle.std.specs.Prelude.{◌≡◌, ◌==◌, ◌↔◌, ◌≤◌, IfOk, IsErrOf, Ok, OnOk, length, map as each, true};
 ghost use Rattle.std.specs.List.{AllByRecursion, position};
-ghost use Rattle.object_text.specs.Store.{put_all};
 ghost use Rattle.object_text.specs.TreeMaps.{is_too_deep as is_too_deep_map, map_at, root_of, tree_id, tree_object, trees_of};
 ghost use Rattle.object_text.specs.Trees.{HaveIds, IsTreeOrder};
+ghost use Rattle.objects.specs.Named.{is_object_place};
 ghost use Rattle.objects.specs.Puts.{object_put};
 ghost use Rattle.seq_outside.specs.Seen.{Writes};
+ghost use Rattle.seq_outside.specs.Store.{StaysOutside};
 ghost use Rattle.path_trees.specs.Faults.{tree_cause};
-ghost use Rattle.path_trees.specs.Puts.{GoesOnBehind, HasPut, StaysElsewhere, count_inside as count_inside_folder, cut, folder_put, trees_put};
+ghost use Rattle.path_trees.specs.Puts.{AllPut, GoesOnBehind, HasPut, cut, folder_put, trees_put};
+ghost use Rattle.path_trees.specs.Puts.{count_inside as count_inside_folder};
 
 use crate::chain::is_too_deep;
 use crate::fault::{TreeFault, put_fault};
@@ -25,7 +27,7 @@ fn put_tree<S: Store>(alloc: Global, store: &mut S, entries: &[TreeEntry]) -> Re
     ensures root { IfOk result (λ id. id ≡ tree_id entries.now) }
     ensures ids { OnOk result (HaveIds entries.now) }
     ensures depth { IsErrOf result TreeFault.Depth → ⊥ }
-    ensures elsewhere { S.told → StaysElsewhere (S.seen store.old).content (S.seen store.new).content }
+    ensures elsewhere { S.told → StaysOutside is_object_place (S.seen store.old).content (S.seen store.new).content }
     ensures writes { Writes S.told tree_cause result (S.seen store.old) (S.seen store.new) }
 {
     let text = tree_text(alloc, entries)?;
@@ -80,7 +82,7 @@ fn put_folder<S: Store>(
     ensures root { IfOk result (λ id. id ≡ root_of (cut skip rows.now)) }
     ensures ids { OnOk result (AllByRecursion (λ e. length e.1.id ≡ 20) rows.now) }
     ensures depth { IsErrOf result TreeFault.Depth → ⊥ }
-    ensures elsewhere { S.told → StaysElsewhere (S.seen store.old).content (S.seen store.new).content }
+    ensures elsewhere { S.told → StaysOutside is_object_place (S.seen store.old).content (S.seen store.new).content }
     ensures writes { Writes S.told tree_cause result (S.seen store.old) (S.seen store.new) }
 {
     let mut entries = Vec::new(alloc);
@@ -112,9 +114,9 @@ pub fn write_map<S: Store>(alloc: Global, store: &mut S, map: &PathMap) -> Resul
     ensures trees { S.told → HasPut result (trees_put map.now (S.seen store.old).content) (S.seen store.new).content }
     ensures root { IfOk result (λ id. id ≡ root_of map.now) }
     ensures depth { IsErrOf result TreeFault.Depth ↔ (is_too_deep_map map.now ≡ true) }
-    ensures objects { S.told → OnOk result (put_all (S.seen store.old).content (each tree_object (trees_of map.now)) ≡ record { world = (S.seen store.new).content; collision = None }) }
+    ensures objects { S.told → OnOk result (AllPut (S.seen store.old).content (each tree_object (trees_of map.now)) (S.seen store.new).content) }
     ensures reads { S.told → IfOk result (λ root. map_at (S.seen store.new).content root ≡ Ok map.now) }
-    ensures elsewhere { S.told → StaysElsewhere (S.seen store.old).content (S.seen store.new).content }
+    ensures elsewhere { S.told → StaysOutside is_object_place (S.seen store.old).content (S.seen store.new).content }
     ensures writes { Writes S.told tree_cause result (S.seen store.old) (S.seen store.new) }
 {
     let rows = map.entries();

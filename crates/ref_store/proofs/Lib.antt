@@ -1,1 +1,7 @@
 pub mod Moving
+pub mod Chains
+pub mod Deleting
+pub mod Updating
+pub mod ValueLaws
+pub mod Keeping
+pub mod Named

@@ -1,8 +1,8 @@
 -- A branch that is moved, as steps over a world (git-update-ref(1)).
-use Rattle.std.specs.Prelude.{◌≡◌, ℕ, false, if◌then◌else◌, List, [], ◌++◌, unwrap_or}
+use Rattle.std.specs.Prelude.{◌≡◌, ℕ, false, if◌then◌else◌, List, [], ◌++◌, unwrap_or, Result, Ok, Err}
 use Rattle.std.specs.FinMap as map
 use Rattle.std.specs.Ordering.{eq_by_cmp}
-use Rattle.seq_base.specs.World.{path_cmp}
+use Rattle.seq_base.specs.World.{World, path_cmp}
 use Rattle.seq_outside.specs.declared.lack.Lack.{Lack}
 use Rattle.seq_outside.specs.Turns.{◌>>=◌, Turn, gives, put_in}
 use Rattle.ref_text.specs.declared.head.Head.TheVariants.{Detached}
@@ -34,6 +34,11 @@ unfoldable pub branch_moved : List ℕ → List ℕ → LogLine → Turn Lack (U
 branch_moved name id line = do
   _ ← ref_set name id
   lines_added name line
+
+-- a step that did not stop has left this world
+abbrev pub LeavesIfOk : Result (Unit {0}) Lack × World → World → Type 0
+LeavesIfOk (Ok x, left) aim = left ≡ aim
+LeavesIfOk (Err why, left) aim = Unit {0}
 
 -- a path that is neither the branch's file nor its log nor HEAD's
 pub record IsElsewhere (branch path : List ℕ) : Type 0 where

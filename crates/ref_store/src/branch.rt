@@ -1,8 +1,8 @@
 //! Moving HEAD's branch.
 
 ghost use Rattle.std.specs.FinMap as map;
-ghost use Rattle.std.specs.Ordering.{eq_by_cmp};
 ghost use Rattle.std.specs.Prelude.{◌≡◌, List, false, ℕ};
+ghost use Rattle.ref_store.specs.Steps.{Does, StaysBut, StaysWhere};
 ghost use Rattle.ref_store.specs.Moves.{IsElsewhere, branch_moved, head_logged, line_added, lines_added, ref_set};
 ghost use Rattle.ref_text.specs.Logs.{IsLogValue};
 ghost use Rattle.ref_text.specs.Refs.{head_name, log_path, ref_path};
@@ -10,7 +10,6 @@ ghost use Rattle.seq_base.specs.RefNames.{IsRefName};
 ghost use Rattle.seq_base.specs.World.{path_cmp};
 ghost use Rattle.seq_outside.specs.Halts.{halt_cause};
 ghost use Rattle.seq_outside.specs.Seen.{Writes};
-ghost use Rattle.seq_outside.specs.Turns.{Turns};
 
 use crate::file::{file_text, put_file};
 use crate::place::{has_log, log_file, ref_file};
@@ -21,10 +20,15 @@ use std::alloc::Global;
 
 /// Gives a ref a value.
 #[tactic(auto, unfolding(crate::specs::Moves::ref_set))]
-fn set_ref<S: Store>(alloc: Global, store: &mut S, name: &[u8], id: Id) -> Result<(), Halt<Lack>>
+pub(crate) fn set_ref<S: Store>(
+    alloc: Global,
+    store: &mut S,
+    name: &[u8],
+    id: Id,
+) -> Result<(), Halt<Lack>>
     requires { IsRefName name.now }
-    ensures turns { S.told → Turns (λ x. x) result (ref_set name.now id (S.seen store.old).content) (S.seen store.new).content }
-    ensures elsewhere { S.told → (other : List ℕ) → eq_by_cmp path_cmp other (ref_path name.now) ≡ false → map.get (S.seen store.new).content other ≡ map.get (S.seen store.old).content other }
+    ensures turns { S.told → Does result (ref_set name.now id) (S.seen store.old) (S.seen store.new) }
+    ensures elsewhere { S.told → StaysBut (ref_path name.now) (S.seen store.old) (S.seen store.new) }
     ensures writes { Writes S.told halt_cause result (S.seen store.old) (S.seen store.new) }
 {
     let path = ref_file(alloc, name)?;
@@ -34,7 +38,7 @@ fn set_ref<S: Store>(alloc: Global, store: &mut S, name: &[u8], id: Id) -> Resul
 
 /// Adds a line at the end of the log of a ref, if a log is kept of it.
 #[tactic(auto, unfolding(crate::specs::Moves::line_added))]
-fn add_line<S: Store>(
+pub(crate) fn add_line<S: Store>(
     alloc: Global,
     store: &mut S,
     name: &[u8],
@@ -42,8 +46,8 @@ fn add_line<S: Store>(
 ) -> Result<(), Halt<Lack>>
     requires name { IsRefName name.now }
     requires line { IsLogValue line.now }
-    ensures turns { S.told → Turns (λ x. x) result (line_added name.now line.now (S.seen store.old).content) (S.seen store.new).content }
-    ensures elsewhere { S.told → (other : List ℕ) → eq_by_cmp path_cmp other (log_path name.now) ≡ false → map.get (S.seen store.new).content other ≡ map.get (S.seen store.old).content other }
+    ensures turns { S.told → Does result (line_added name.now line.now) (S.seen store.old) (S.seen store.new) }
+    ensures elsewhere { S.told → StaysBut (log_path name.now) (S.seen store.old) (S.seen store.new) }
     ensures writes { Writes S.told halt_cause result (S.seen store.old) (S.seen store.new) }
 {
     if !has_log(name) {
@@ -60,8 +64,8 @@ fn add_line<S: Store>(
 #[tactic(auto, unfolding(crate::specs::Moves::head_logged))]
 fn log_head<S: Store>(alloc: Global, store: &mut S, line: &LogLine) -> Result<(), Halt<Lack>>
     requires { IsLogValue line.now }
-    ensures turns { S.told → Turns (λ x. x) result (head_logged line.now (S.seen store.old).content) (S.seen store.new).content }
-    ensures elsewhere { S.told → (other : List ℕ) → eq_by_cmp path_cmp other (log_path head_name) ≡ false → map.get (S.seen store.new).content other ≡ map.get (S.seen store.old).content other }
+    ensures turns { S.told → Does result (head_logged line.now) (S.seen store.old) (S.seen store.new) }
+    ensures elsewhere { S.told → StaysBut (log_path head_name) (S.seen store.old) (S.seen store.new) }
     ensures writes { Writes S.told halt_cause result (S.seen store.old) (S.seen store.new) }
 {
     add_line(alloc, store, b"HEAD", line)
@@ -77,8 +81,8 @@ fn add_lines<S: Store>(
 ) -> Result<(), Halt<Lack>>
     requires name { IsRefName name.now }
     requires line { IsLogValue line.now }
-    ensures turns { S.told → Turns (λ x. x) result (lines_added name.now line.now (S.seen store.old).content) (S.seen store.new).content }
-    ensures elsewhere { S.told → (path : List ℕ) → IsElsewhere name.now path → map.get (S.seen store.new).content path ≡ map.get (S.seen store.old).content path }
+    ensures turns { S.told → Does result (lines_added name.now line.now) (S.seen store.old) (S.seen store.new) }
+    ensures elsewhere { S.told → StaysWhere (IsElsewhere name.now) (S.seen store.old) (S.seen store.new) }
     ensures writes { Writes S.told halt_cause result (S.seen store.old) (S.seen store.new) }
 {
     add_line(alloc, store, name, line)?;
@@ -98,10 +102,10 @@ pub fn move_branch<S: Store>(
 ) -> Result<(), Halt<Lack>>
     requires branch { IsRefName branch.now }
     requires line { IsLogValue line.now }
-    ensures turns { S.told → Turns (λ x. x) result (branch_moved branch.now id line.now (S.seen store.old).content) (S.seen store.new).content }
+    ensures turns { S.told → Does result (branch_moved branch.now id line.now) (S.seen store.old) (S.seen store.new) }
 
     // It follows from `turns`, where it ends well or by a blocked put.
-    ensures elsewhere { S.told → (path : List ℕ) → IsElsewhere branch.now path → map.get (S.seen store.new).content path ≡ map.get (S.seen store.old).content path }
+    ensures elsewhere { S.told → StaysWhere (IsElsewhere branch.now) (S.seen store.old) (S.seen store.new) }
     ensures writes { Writes S.told halt_cause result (S.seen store.old) (S.seen store.new) }
 {
     set_ref(alloc, store, branch, id)?;

@@ -1,13 +1,13 @@
 //! Files that are read and put.
 
 ghost use Rattle.std.specs.FinMap as map;
-ghost use Rattle.std.specs.Ordering.{eq_by_cmp};
 ghost use Rattle.std.specs.Prelude.{◌≡◌, [], IfOk, List, false, unwrap_or, ℕ};
+ghost use Rattle.ref_store.specs.Steps.{Does, StaysBut};
 ghost use Rattle.seq_base.specs.StorePaths.{IsStorePath};
 ghost use Rattle.seq_base.specs.World.{path_cmp};
 ghost use Rattle.seq_outside.specs.Halts.{halt_cause};
 ghost use Rattle.seq_outside.specs.Seen.{Reads, Writes, store_cause};
-ghost use Rattle.seq_outside.specs.Turns.{Turns, put_in};
+ghost use Rattle.seq_outside.specs.Turns.{put_in};
 
 use seq_base::Bytes;
 use seq_outside::{Halt, Lack, Store, StoreError};
@@ -34,8 +34,8 @@ pub fn put_file<S: Store>(
     bytes: &[u8],
 ) -> Result<(), Halt<Lack>>
     requires { IsStorePath path.items }
-    ensures turns { S.told → Turns (λ x. x) result (put_in path.items bytes.now (S.seen store.old).content) (S.seen store.new).content }
-    ensures elsewhere { S.told → (other : List ℕ) → eq_by_cmp path_cmp other path.items ≡ false → map.get (S.seen store.new).content other ≡ map.get (S.seen store.old).content other }
+    ensures turns { S.told → Does result (put_in path.items bytes.now) (S.seen store.old) (S.seen store.new) }
+    ensures elsewhere { S.told → StaysBut path.items (S.seen store.old) (S.seen store.new) }
     ensures writes { Writes S.told halt_cause result (S.seen store.old) (S.seen store.new) }
 {
     match store.put(alloc, &path, bytes) {

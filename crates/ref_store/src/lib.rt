@@ -1,10 +1,21 @@
-//! Refs in a store, each in a file of its own, with their logs.
+//! Refs in a store, each in a file of its own or packed, with their logs.
 #![tactic(auto)]
 
 mod branch;
+mod change;
+mod fault;
 mod file;
 mod laws;
 mod place;
+mod read;
+mod removal;
 
 pub use branch::move_branch;
-pub use laws::branch_is_moved;
+pub use change::{set_head, update};
+pub use fault::RefFault;
+pub use laws::{
+    branch_is_moved, delete_keeps_other_values, set_ref_keeps_other_values, update_is_exact,
+    value_is_told,
+};
+pub use read::{head, log, resolve};
+pub use removal::delete;

@@ -1,5 +1,6 @@
 pub mod Written
 pub mod HeadLaws
+pub mod LooseLaws
 pub mod PackedTexts
 pub mod RefLaws
 pub mod LogLaws
@@ -8,3 +9,4 @@ pub mod Choices
 pub mod PackedNames
 pub mod PackedLaws
 pub mod PackedLoops
+pub mod LineLaws

@@ -1,17 +1,18 @@
 -- The packed refs that are written spell the refs.
-use Rattle.std.proofs.Common.{◌≡◌, ℕ, ◌+◌, ◌<◌, ◌≤◌, Bool, true, false, not, cond, List, [], ◌∷◌, ◌++◌, length, take, get_or, None, refl, sym, ap, subst, ◌∙◌, append_assoc, arith}
-use Rattle.std.specs.List.{filter, flat_map, list_any}
+use Rattle.std.proofs.Common.{◌≡◌, ℕ, ◌+◌, ◌<◌, ◌≤◌, Bool, true, false, not, cond, List, [], ◌∷◌, ◌++◌, length, take, get_or, Some, None, refl, sym, ap, subst, ◌∙◌, append_assoc, arith}
+use Rattle.std.specs.List.{flat_map, list_any}
 use Rattle.std.specs.Prelude.{map}
 use Rattle.std.specs.Str.{bytes_eq}
 use Rattle.std.proofs.lemmas.List.{append-nil, take_all, take_more}
-use Rattle.std.proofs.lemmas.Bool.{or_parts}
+use Rattle.std.proofs.lemmas.Bool.{both_ways, or_parts}
+use Rattle.std.proofs.lemmas.Slice.Eq.{bytes_eq-Decides}
 use Rattle.hex.specs.Hex.{IsBytes, encode_lower}
 use Rattle.hex.proofs.HexLemmas.{decode_of-ok}
-use Rattle.seq_base.specs.Ids.{SpellsId}
+use Rattle.seq_base.specs.Ids.{HasIdWidth, IsId, SpellsId}
 use Rattle.seq_base.specs.RefNames.{IsRefName}
 use Rattle.seq_base.proofs.HexCases.{spells_lower}
 use Rattle.ref_text.specs.Packed.{AreLines, ArePackedNames, IsPacked, PackedLine, comment, named, peeled, line_text, packed_text}
-use Rattle.ref_text.specs.Refs.{is_packed, packed_value}
+use Rattle.ref_text.specs.Refs.{without, is_packed, packed_value}
 
 abbrev pub Refs : Type 0
 Refs = List (List ℕ × List ℕ)
@@ -19,9 +20,9 @@ Refs = List (List ℕ × List ℕ)
 -- each has the name of a ref and an id
 abbrev pub ArePacked : Refs → Type 0
 ArePacked [] = Unit {0}
-ArePacked (r ∷ refs) = IsRefName r.0 × IsBytes r.1 × (length r.1 ≡ 20) × ArePacked refs
+ArePacked (r ∷ refs) = IsRefName r.0 × IsBytes r.1 × HasIdWidth r.1 × ArePacked refs
 
-id_size : (id digits : List ℕ) → SpellsId id digits → IsBytes id × (length id ≡ 20)
+id_size : (id digits : List ℕ) → SpellsId id digits → IsId id
 id_size id digits h = let d = decode_of-ok digits id h.bytes in (d.3, let size = d.2 in let all = h.forty in omega arith)
 
 -- what lines spell
@@ -55,9 +56,6 @@ pub packed_spells : (refs : Refs) → ArePacked refs → IsPacked refs (packed_t
 packed_spells refs h = record { lines = lines_of refs; are_lines = are_lines false refs h; text_is = lines_text refs }
 
 -- the refs of other names
-abbrev pub without : List ℕ → Refs → Refs
-without name refs = filter (λ r. not (bytes_eq r.0 name)) refs
-
 pub packed_without : (name : List ℕ) (refs : Refs) → ArePacked refs → ArePacked (without name refs)
 packed_without name [] h = tt
 packed_without name (r ∷ refs) h = at (bytes_eq r.0 name) (packed_without name refs h.3)
@@ -74,6 +72,23 @@ value_without name (r ∷ refs) = at (bytes_eq r.0 name) refl (value_without nam
     at true e later = later
     at false e later = rw e later
 
+pub without_none : (name : List ℕ) (refs : Refs) → is_packed refs name ≡ false → without name refs ≡ refs
+without_none name [] h = refl
+without_none name (r ∷ refs) h = let both = or_parts (bytes_eq r.0 name) (list_any (λ q. bytes_eq q.0 name) refs) h in rw (both.0, without_none name refs both.1) refl
+
+value_kept_at : (t u : Bool) (name other : List ℕ) (r : List ℕ × List ℕ) (refs : Refs) → bytes_eq r.0 name ≡ t → bytes_eq r.0 other ≡ u → bytes_eq other name ≡ false
+    → packed_value (without name refs) other ≡ packed_value refs other → packed_value (cond (not t) (r ∷ without name refs) (without name refs)) other ≡ cond u (Some r.1) (packed_value refs other)
+value_kept_at true true name other r refs is also ne later =
+    absurd (both_ways (bytes_eq other name) ne ((bytes_eq-Decides other name).1 (sym ((bytes_eq-Decides r.0 other).0 also) ∙ (bytes_eq-Decides r.0 name).0 is)))
+value_kept_at true false name other r refs is also ne later = later
+value_kept_at false true name other r refs is also ne later = rw also refl
+value_kept_at false false name other r refs is also ne later = rw also later
+
+-- another name keeps its packed value
+pub value_kept : (name other : List ℕ) (refs : Refs) → bytes_eq other name ≡ false → packed_value (without name refs) other ≡ packed_value refs other
+value_kept name other [] ne = refl
+value_kept name other (r ∷ refs) ne = value_kept_at (bytes_eq r.0 name) (bytes_eq r.0 other) name other r refs refl refl ne (value_kept name other refs ne)
+
 pub value_none : (name : List ℕ) (refs : Refs) → is_packed refs name ≡ false → packed_value refs name ≡ None
 value_none name [] h = refl
 value_none name (r ∷ refs) h = let both = or_parts (bytes_eq r.0 name) (list_any (λ q. bytes_eq q.0 name) refs) h in rw both.0 (value_none name refs both.1)
@@ -81,9 +96,9 @@ value_none name (r ∷ refs) h = let both = or_parts (bytes_eq r.0 name) (list_a
 -- each has an id
 abbrev pub HaveIds : Refs → Type 0
 HaveIds [] = Unit {0}
-HaveIds (r ∷ refs) = IsBytes r.1 × (length r.1 ≡ 20) × HaveIds refs
+HaveIds (r ∷ refs) = IsBytes r.1 × HasIdWidth r.1 × HaveIds refs
 
-pub ids-push : (refs : Refs) (r : List ℕ × List ℕ) → HaveIds refs → IsBytes r.1 × (length r.1 ≡ 20) → HaveIds (refs ++ r ∷ [])
+pub ids-push : (refs : Refs) (r : List ℕ × List ℕ) → HaveIds refs → IsId r.1 → HaveIds (refs ++ r ∷ [])
 ids-push [] r h is = (is.0, is.1, tt)
 ids-push (q ∷ refs) r h is = (h.0, h.1, ids-push refs r h.2 is)
 
@@ -106,7 +121,7 @@ text_more refs i r out after name lt is out_is name_is after_is =
     after_is ∙ ap (λ (t : List ℕ). t ++ (encode_lower r.1 ++ 32 ∷ name ++ 10 ∷ [])) out_is ∙ ap (λ (t : List ℕ). packed_text (take i refs) ++ (encode_lower r.1 ++ 32 ∷ t ++ 10 ∷ [])) name_is
     ∙ sym (text-push (take i refs) r) ∙ ap packed_text (sym more)
 
-pub ids_more : (refs : Refs) (i : ℕ) (r : List ℕ × List ℕ) → i < length refs → r ≡ get_or refs i r → HaveIds (take i refs) → IsBytes r.1 × (length r.1 ≡ 20) → HaveIds (take (i + 1) refs)
+pub ids_more : (refs : Refs) (i : ℕ) (r : List ℕ × List ℕ) → i < length refs → r ≡ get_or refs i r → HaveIds (take i refs) → IsId r.1 → HaveIds (take (i + 1) refs)
 ids_more refs i r lt is ids id =
     let more : take (i + 1) refs ≡ take i refs ++ r ∷ [] = take_more refs i r lt ∙ ap (λ (q : List ℕ × List ℕ). take i refs ++ q ∷ []) (sym is) in
     subst HaveIds (sym more) (ids-push (take i refs) r ids id)

@@ -5,3 +5,5 @@ pub mod Faults
 pub mod Refs
 pub mod ReadLogs
 pub mod ReadPacked
+pub mod ReadHeads
+pub mod ReadLines

@@ -88,11 +88,17 @@ move_head w (Detached old) id line = set_ref w head_name id line
 abbrev pub is_packed : List (List ℕ × List ℕ) → List ℕ → Bool
 is_packed refs name = list_any (λ r. bytes_eq r.0 name) refs
 
--- a ref that is deleted, loose, and packed where these packed refs have it
+-- the packed refs without a name
+abbrev pub without : List ℕ → List (List ℕ × List ℕ) → List (List ℕ × List ℕ)
+without name refs = filter (λ r. not (bytes_eq r.0 name)) refs
+
+-- the packed refs are written anew without the name, where they have it
+abbrev pub unpacked : World → List (List ℕ × List ℕ) → List ℕ → World
+unpacked w refs name = if is_packed refs name then map.insert w packed_path (packed_text (without name refs)) else w
+
+-- a ref that is deleted: packed where these packed refs have it, then loose, so that its packed value never stands alone
 abbrev pub delete_ref : World → List (List ℕ × List ℕ) → List ℕ → World
-delete_ref w refs name =
-    let rest = map.remove w (ref_path name) in
-    if is_packed refs name then map.insert rest packed_path (packed_text (filter (λ r. not (bytes_eq r.0 name)) refs)) else rest
+delete_ref w refs name = map.remove (unpacked w refs name) (ref_path name)
 
 -- no file stands in the way of a ref or its log, nor a folder
 pub record IsWritable (w : World) (name : List ℕ) : Type 0 where

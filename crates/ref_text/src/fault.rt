@@ -1,5 +1,9 @@
 //! Why bytes were not read.
 
+ghost use Rattle.std.specs.Prelude.{◌≡◌, ◌≤◌, ◌-◌, length};
+ghost use Rattle.grammar.specs.Lines.{line_of_place as line_at};
+
+use grammar::line_of_place;
 use thiserror::Error;
 
 /// Why bytes are no HEAD.
@@ -19,4 +23,14 @@ pub enum LineFault {
     Bad { line: u64 },
     #[error("out of memory")]
     Memory,
+}
+
+/// The line at which a reader stopped that had so many bytes left.
+pub(crate) fn bad_line(text: &[u8], left: usize) -> LineFault
+    requires { left ≤ length text.now }
+    ensures { result ≡ LineFault.Bad (line_at (length text.now - left) text.now) }
+{
+    LineFault::Bad {
+        line: line_of_place(text, text.len() - left),
+    }
 }

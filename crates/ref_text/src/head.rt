@@ -1,15 +1,18 @@
 //! HEAD.
 
-ghost use Rattle.std.specs.Prelude.{◌≡◌, ◌∷◌, ◌++◌, [], codes, IfOk, List, MatchOption, ℕ};
+ghost use Rattle.std.specs.Prelude.{◌≡◌, ◌≤◌, ◌∷◌, ◌++◌, [], codes, drop, IfOk, IfSome, length, take};
+ghost use Rattle.std.specs.List.{position_or_len};
+ghost use Rattle.std.specs.Option.{option_map};
 ghost use Rattle.grammar.specs.Grammar.{IsReading};
 ghost use Rattle.hex.specs.Hex.{encode_lower};
-ghost use Rattle.seq_base.specs.Ids.{SpellsId};
 ghost use Rattle.seq_base.specs.RefNames.{IsRefName};
-ghost use Rattle.ref_text.specs.Faults.{IsHeadFault};
+ghost use Rattle.ref_text.specs.Faults.{GivesHead, IsHeadFault, IsLooseFault};
 ghost use Rattle.ref_text.specs.Heads.{IsHeadValue, SpellsHead, head_text as text_of_head};
+ghost use Rattle.ref_text.specs.ReadHeads.{branch_in, ends_word as ends_word_of, head_in as head_in_line, head_of, id_in, is_loose_end as is_loose_end_of, line_length, loose_of};
+ghost use Rattle.ref_text.specs.Refs.{SpellsLoose};
 
 use crate::fault::HeadFault;
-use seq_base::{Bytes, Id, is_ref_name};
+use seq_base::{Bytes, Id, is_blank, is_ref_name};
 use std::alloc::{AllocError, Global};
 
 /// What HEAD is: a branch that is checked out, by its whole name, or a commit.
@@ -51,26 +54,19 @@ pub fn head_text(alloc: Global, head: &Head) -> Result<Vec<u8>, AllocError>
     }
 }
 
-/// The one line of a text, without its line feed.
-#[tactic(auto, using(crate::proofs::HeadLaws::lines))]
-fn line_of(text: &[u8]) -> Option<&[u8]>
-    ensures { MatchOption result ((line : List ℕ) → text.now ≡ line ++ 10 ∷ [] → ⊥) (λ line. text.now ≡ line.now ++ 10 ∷ []) }
-{
-    text.strip_suffix(b"\n")
-}
-
 /// The branch that a line names.
-#[tactic(auto, using(crate::proofs::HeadLaws::branches))]
 fn branch_of(line: &[u8]) -> Option<&[u8]>
-    ensures { MatchOption result ((name : List ℕ) → IsRefName name → line.now ≡ codes "ref: " ++ name → ⊥) (λ name. IsRefName name.now × (line.now ≡ codes "ref: " ++ name.now)) }
+    ensures branch { option_map (λ name. name.now) result ≡ branch_in line.now }
+    ensures name { IfSome result (λ name. IsRefName name.now) }
 {
     let name = line.strip_prefix(b"ref: ")?;
     if is_ref_name(name) { Some(name) } else { None }
 }
 
 /// The id that forty digits spell.
+#[tactic(auto, unfolding(crate::specs::ReadHeads::id_in), using(crate::proofs::HeadLaws::no_id))]
 fn id_of(digits: &[u8]) -> Option<Id>
-    ensures { MatchOption result ((id : List ℕ) → SpellsId id digits.now → ⊥) (λ id. SpellsId id digits.now) }
+    ensures { result ≡ id_in digits.now }
 {
     match Id::from_hex(digits) {
         Ok(id) => Some(id),
@@ -78,14 +74,12 @@ fn id_of(digits: &[u8]) -> Option<Id>
     }
 }
 
-/// What HEAD is by its text, all of it: `ref: <name>` or forty hex digits in either case, and LF. Bad where it is neither
-/// (gitrepository-layout(5), "HEAD"; git-symbolic-ref(1)).
-pub fn parse_head(alloc: Global, text: &[u8]) -> Result<Head, HeadFault>
-    ensures { IsReading (λ head. head) (IsHeadFault text.now) SpellsHead text.now result }
+/// What a line says.
+#[tactic(auto, unfolding(crate::specs::ReadHeads::head_in))]
+fn head_in(alloc: Global, line: &[u8]) -> Result<Head, HeadFault>
+    ensures gives { GivesHead result (head_in_line line.now) }
+    ensures value { IfOk result IsHeadValue }
 {
-    let Some(line) = line_of(text) else {
-        return Err(HeadFault::Bad);
-    };
     if let Some(name) = branch_of(line) {
         return match Vec::from_slice(alloc, name) {
             Ok(name) => Ok(Head::Branch(Bytes::from_vec(name))),
@@ -96,4 +90,101 @@ pub fn parse_head(alloc: Global, text: &[u8]) -> Result<Head, HeadFault>
         Some(id) => Ok(Head::Detached(id)),
         None => Err(HeadFault::Bad),
     }
+}
+
+fn ends_word(byte: u8) -> bool
+    ensures { result ≡ ends_word_of byte }
+{
+    is_blank(byte) || byte == b'\n'
+}
+
+/// How many bytes stand before a blank or a line feed.
+#[tactic(auto, using(crate::proofs::LooseLaws::words))]
+fn word_length(bytes: &[u8]) -> usize
+    ensures length { result ≡ position_or_len ends_word_of bytes.now }
+    ensures within { result ≤ length bytes.now }
+{
+    for (place, byte) in bytes.iter().enumerate() {
+        if ends_word(*byte) {
+            return place;
+        }
+    }
+    bytes.len()
+}
+
+/// The line of a text, and what stands behind it.
+#[tactic(auto, unfolding(crate::specs::ReadHeads::line_length))]
+fn line_of(text: &[u8]) -> (&[u8], &[u8])
+    ensures line { result.0.now ≡ take (line_length text.now) text.now }
+    ensures end { result.1.now ≡ drop (line_length text.now) text.now }
+{
+    if text.starts_with(b"ref: ") {
+        let place = 5 + word_length(&text[5..]);
+        return text.split_at(place);
+    }
+    text.split_at(word_length(text))
+}
+
+#[tactic(auto, unfolding(crate::specs::ReadHeads::head_of))]
+fn whole_head(alloc: Global, text: &[u8]) -> Result<Head, HeadFault>
+    ensures gives { GivesHead result (head_of text.now) }
+    ensures value { IfOk result IsHeadValue }
+{
+    let (line, end) = line_of(text);
+    if end == b"\n".as_slice() {
+        return head_in(alloc, line);
+    }
+    Err(HeadFault::Bad)
+}
+
+/// What HEAD is by its text, all of it: `ref: <name>` or forty hex digits in either case, and LF. Bad where it is neither
+/// (gitrepository-layout(5), "HEAD"; git-symbolic-ref(1)).
+#[tactic(auto, using(crate::proofs::LooseLaws::reading))]
+pub fn parse_head(alloc: Global, text: &[u8]) -> Result<Head, HeadFault>
+    ensures read { IsReading (λ head. head) (IsHeadFault text.now) SpellsHead text.now result }
+    ensures gives { GivesHead result (head_of text.now) }
+    ensures value { IfOk result IsHeadValue }
+{
+    whole_head(alloc, text)
+}
+
+/// Blanks, and a line feed or none.
+#[tactic(auto, unfolding(crate::specs::ReadHeads::is_loose_end))]
+fn is_loose_end(end: &[u8]) -> bool
+    ensures { result ≡ is_loose_end_of end.now }
+{
+    let mut rest = end;
+    while let [first, after @ ..] = rest {
+        if *first == b'\n' {
+            return after.is_empty();
+        }
+        if !is_blank(*first) {
+            return false;
+        }
+        rest = after;
+    }
+    true
+}
+
+#[tactic(auto, unfolding(crate::specs::ReadHeads::loose_of))]
+fn whole_loose(alloc: Global, text: &[u8]) -> Result<Head, HeadFault>
+    ensures gives { GivesHead result (loose_of text.now) }
+    ensures value { IfOk result IsHeadValue }
+{
+    let (line, end) = line_of(text);
+    if is_loose_end(end) {
+        return head_in(alloc, line);
+    }
+    Err(HeadFault::Bad)
+}
+
+/// What a loose ref is by its text, all of it: that of a HEAD, where blanks may stand behind its line, and the LF may be missing. Bad
+/// where it is none (gitrepository-layout(5), "refs").
+#[tactic(auto, using(crate::proofs::LooseLaws::reading))]
+pub fn parse_loose(alloc: Global, text: &[u8]) -> Result<Head, HeadFault>
+    ensures read { IsReading (λ head. head) (IsLooseFault text.now) SpellsLoose text.now result }
+    ensures gives { GivesHead result (loose_of text.now) }
+    ensures value { IfOk result IsHeadValue }
+{
+    whole_loose(alloc, text)
 }

@@ -1,7 +1,8 @@
 //! What the definitions of `specs/` come to in plain words. Each law is the contract of a function that does nothing.
 
-ghost use Rattle.std.specs.Prelude.{◌≡◌, ◌≢◌, ◌⊎◌, List, None, Option, Some, length, ℕ};
+ghost use Rattle.std.specs.Prelude.{◌≡◌, ◌≢◌, ◌⊎◌, List, None, Option, Some, ℕ};
 ghost use Rattle.std.specs.FinMap as map;
+ghost use Rattle.seq_base.specs.Ids.{HasIdWidth};
 ghost use Rattle.seq_base.specs.RefNames.{IsRefName};
 ghost use Rattle.seq_base.specs.World.{World};
 ghost use Rattle.ref_text.specs.Packed.{IsPacked, packed_text as text_of_refs};
@@ -16,7 +17,7 @@ use seq_base::{Bytes, Id};
 pub fn set_ref_has_value(name: &[u8], id: &[u8], line: &LogLine)
     ghost w: { World }
     requires name { IsRefName name.now }
-    requires id { length id.now ≡ 20 }
+    requires id { HasIdWidth id.now }
     ensures value { RefAt (set_ref w name.now id.now line.now) name.now (Some id.now) }
     ensures elsewhere { (path : List ℕ) → path ≢ ref_path name.now → path ≢ log_path name.now → map.get (set_ref w name.now id.now line.now) path ≡ map.get w path }
     ensures others { (other : List ℕ) (value : Option (List ℕ)) → IsRefName other → RefAt w other value → RefAt (set_ref w name.now id.now line.now) other value ⊎ RefAt (set_ref w name.now id.now line.now) other (Some id.now) }

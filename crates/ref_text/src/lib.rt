@@ -10,7 +10,7 @@ mod read_log;
 mod read_packed;
 
 pub use fault::{HeadFault, LineFault};
-pub use head::{Head, head_text, parse_head};
+pub use head::{Head, head_text, parse_head, parse_loose};
 pub use log::{LogLine, log_text};
 pub use packed::packed_text;
 pub use read_log::parse_log;

@@ -1,7 +1,8 @@
 //! The packed refs.
 
-ghost use Rattle.std.specs.Prelude.{◌≡◌, ◌∷◌, ◌++◌, [], IfOk, length};
-ghost use Rattle.hex.specs.Hex.{IsBytes, encode_lower};
+ghost use Rattle.std.specs.Prelude.{◌≡◌, ◌∷◌, ◌++◌, [], IfOk};
+ghost use Rattle.hex.specs.Hex.{encode_lower};
+ghost use Rattle.seq_base.specs.Ids.{IsId};
 ghost use Rattle.ref_text.specs.Packed.{ArePackedNames, IsPacked, packed_text as text_of_refs};
 
 use seq_base::{Bytes, Id};
@@ -9,7 +10,7 @@ use std::alloc::{AllocError, Global};
 
 fn put_line(out: &mut Vec<u8>, alloc: Global, name: &[u8], id: &Id) -> Result<(), AllocError>
     ensures text { IfOk result (λ _. out.new.items ≡ out.old.items ++ (encode_lower id.now ++ 32 ∷ name.now ++ 10 ∷ [])) }
-    ensures id { IfOk result (λ _. IsBytes id.now × (length id.now ≡ 20)) }
+    ensures id { IfOk result (λ _. IsId id.now) }
 {
     let digits = id.hex(alloc)?;
     out.extend_from_slice(digits.as_slice())?;

@@ -6,11 +6,12 @@ ghost use Rattle.grammar.specs.Grammar.{IsReading};
 ghost use Rattle.hex.specs.Hex.{is_hex_digit};
 ghost use Rattle.ref_text.specs.Faults.{IsLineFault};
 ghost use Rattle.ref_text.specs.Logs.{IsLog};
+ghost use Rattle.ref_text.specs.ReadLines.{GivesLines, log_of};
 ghost use Rattle.ref_text.specs.ReadLogs.{AreDigits, digits_from, id_of as id_of_digits, in_line, line_from, log_from, made, old_of as old_of_digits, who_from};
 
-use crate::fault::LineFault;
+use crate::fault::{LineFault, bad_line};
 use crate::log::{LogLine, NO_VALUE};
-use grammar::{ByteTest, ReadError, behind_literal, line_of_place, passing_front, word_of};
+use grammar::{ByteTest, ReadError, behind_literal, passing_front, word_of};
 use ident_text::ident_of;
 use seq_base::{Bytes, Id};
 use std::alloc::{AllocError, Global};
@@ -142,17 +143,23 @@ fn lines_of(alloc: Global, text: &[u8]) -> Result<Vec<LogLine>, ReadError>
     Ok(lines)
 }
 
-/// The lines of a reflog, all of its text: for each `<old> SP <new> SP <ident> TAB <message> LF`, where forty zeros stand for no old
-/// value, digits stand in either case, and the ident is one of git-commit-tree(1). Bad where it is none, with the first line with
-/// which no reflog goes on, counted from 1, or the last one where the text ends too early (git-reflog(1)).
-pub fn parse_log(alloc: Global, text: &[u8]) -> Result<Vec<LogLine>, LineFault>
-    ensures { IsReading (λ v. v.items) (IsLineFault IsLog text.now) IsLog text.now result }
+#[tactic(auto, unfolding(crate::specs::ReadLines::log_of))]
+fn log_in(alloc: Global, text: &[u8]) -> Result<Vec<LogLine>, LineFault>
+    ensures { GivesLines (λ v. v.items) result (log_of text.now) }
 {
     match lines_of(alloc, text) {
         Ok(lines) => Ok(lines),
         Err(ReadError::Memory) => Err(LineFault::Memory),
-        Err(ReadError::Stopped { left }) => Err(LineFault::Bad {
-            line: line_of_place(text, text.len() - left),
-        }),
+        Err(ReadError::Stopped { left }) => Err(bad_line(text, left)),
     }
+}
+
+/// The lines of a reflog, all of its text: for each `<old> SP <new> SP <ident> TAB <message> LF`, where forty zeros stand for no old
+/// value, digits stand in either case, and the ident is one of git-commit-tree(1). Bad where it is none, with the first line with
+/// which no reflog goes on, counted from 1, or the last one where the text ends too early (git-reflog(1)).
+pub fn parse_log(alloc: Global, text: &[u8]) -> Result<Vec<LogLine>, LineFault>
+    ensures read { IsReading (λ v. v.items) (IsLineFault IsLog text.now) IsLog text.now result }
+    ensures gives { GivesLines (λ v. v.items) result (log_of text.now) }
+{
+    log_in(alloc, text)
 }

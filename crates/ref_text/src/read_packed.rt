@@ -6,12 +6,13 @@ ghost use Rattle.grammar.specs.Grammar.{IsReading};
 ghost use Rattle.grammar.specs.Readers.{begins, valued_at};
 ghost use Rattle.ref_text.specs.Faults.{IsLineFault};
 ghost use Rattle.ref_text.specs.Packed.{ArePackedNames, IsPacked};
+ghost use Rattle.ref_text.specs.ReadLines.{GivesLines, packed_of};
 ghost use Rattle.ref_text.specs.ReadLogs.{AreDigits, id_of as id_of_digits};
 ghost use Rattle.ref_text.specs.ReadPacked.{at_name, behind_all, comment_from, may_name, name_value, named_from, packed_from, packed_line_from, peeled_from};
 
-use crate::fault::LineFault;
+use crate::fault::{LineFault, bad_line};
 use crate::read_log::{HexDigit, LineByte, digits_of, id_of};
-use grammar::{ReadError, Scan, behind_literal, line_of_place, passing_front, span_of, word_of};
+use grammar::{ReadError, Scan, behind_literal, passing_front, span_of, word_of};
 use seq_base::{Bytes, Id, RefFront, is_ref_name};
 use std::alloc::{AllocError, Global};
 
@@ -143,19 +144,25 @@ fn refs_of(alloc: Global, text: &[u8]) -> Result<Vec<(Bytes, Id)>, ReadError>
     Ok(refs)
 }
 
+#[tactic(auto, unfolding(crate::specs::ReadLines::packed_of))]
+fn packed_in(alloc: Global, text: &[u8]) -> Result<Vec<(Bytes, Id)>, LineFault>
+    ensures { GivesLines (λ v. v.items) result (packed_of text.now) }
+{
+    match refs_of(alloc, text) {
+        Ok(refs) => Ok(refs),
+        Err(ReadError::Memory) => Err(LineFault::Memory),
+        Err(ReadError::Stopped { left }) => Err(bad_line(text, left)),
+    }
+}
+
 /// The refs of the file, all of its text, in its order: lines `<hex> SP <name> LF` with the name of a ref, of which the first counts
 /// where two have one name; lines that begin with `#`; and lines `^<hex> LF` right behind that of a ref, which say what a tag points
 /// to. Digits stand in either case. Bad where it is none, with the first line with which no such file goes on, counted from 1, or
 /// the last one where the text ends too early (git-pack-refs(1); gitrepository-layout(5), "packed-refs").
 pub fn parse_packed(alloc: Global, text: &[u8]) -> Result<Vec<(Bytes, Id)>, LineFault>
     ensures read { IsReading (λ v. v.items) (IsLineFault IsPacked text.now) IsPacked text.now result }
+    ensures gives { GivesLines (λ v. v.items) result (packed_of text.now) }
     ensures names { IfOk result (λ v. ArePackedNames v.items) }
 {
-    match refs_of(alloc, text) {
-        Ok(refs) => Ok(refs),
-        Err(ReadError::Memory) => Err(LineFault::Memory),
-        Err(ReadError::Stopped { left }) => Err(LineFault::Bad {
-            line: line_of_place(text, text.len() - left),
-        }),
-    }
+    packed_in(alloc, text)
 }

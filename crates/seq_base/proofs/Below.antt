@@ -2,7 +2,6 @@
 use Rattle.std.proofs.Common.{◌≡◌, ℕ, ◌==◌, ◌&&◌, Bool, true, false, nat_eq, List, [], ◌∷◌, ◌++◌, length, take, slice_index, refl, ap, arith}
 use Rattle.std.proofs.lemmas.Bool.{and_parts, and_from, eqb-true, eq-eqb}
 use Rattle.std.specs.Cmp.Lexicographic.{pointwise}
-use Rattle.seq_base.specs.PathMaps.{is_folder_of}
 use Rattle.seq_base.specs.World.{is_below}
 
 pub behind : (f p : List ℕ) → is_below f p ≡ true → (rest : List ℕ) × (p ≡ f ++ 47 ∷ rest)
@@ -26,16 +25,3 @@ below (x ∷ f) rest =
 
 pub below_at : (f p : List ℕ) → (rest : List ℕ) × (p ≡ f ++ 47 ∷ rest) → is_below f p ≡ true
 below_at f p h = rw h.1 (below f h.0)
-
--- the two tests agree
-pub folder_of-below : (f p : List ℕ) → is_folder_of f p ≡ is_below f p
-folder_of-below [] [] = refl
-folder_of-below [] (b ∷ p) = grind arith
-folder_of-below (x ∷ f) [] = refl
-folder_of-below (x ∷ f) (b ∷ p) =
-    let later = folder_of-below f p in
-    left (x == b) (pointwise (λ y c. y == c) f (take (length f) p)) _ (pointwise nat_eq f (take (length f) p)) _ later
-  where
-    left : (a b c d e : Bool) → (b && c) ≡ (d && e) → ((a && b) && c) ≡ ((a && d) && e)
-    left true b c d e h = h
-    left false b c d e h = refl

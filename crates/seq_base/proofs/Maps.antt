@@ -11,7 +11,8 @@ use Rattle.std.proofs.lemmas.Map.Text.{is_eq-slice_cmp}
 use Rattle.std.proofs.lemmas.Slice.Eq.{bytes_eq-Decides}
 use Rattle.seq_base.specs.declared.map.Entry.{Entry}
 use Rattle.seq_base.specs.declared.mode.Mode.TheVariants.{Folder}
-use Rattle.seq_base.specs.PathMaps.{is_less, clashes, is_folder_of, IsAscending, AreApart, HoldsFiles, IsPathMap, put, first_clash}
+use Rattle.seq_base.specs.World.{is_below}
+use Rattle.seq_base.specs.PathMaps.{is_less, clashes, IsAscending, AreApart, HoldsFiles, IsPathMap, put, first_clash}
 
 pub set_is : {X : Type 0} (xs : List X) (i : ℕ) (v : X) → i < length xs → set xs i v ≡ take i xs ++ v ∷ drop (i + 1) xs
 set_is [] i v lt = absurd (omega arith)
@@ -75,7 +76,7 @@ or_swap false true = refl
 or_swap false false = refl
 
 clashes_back : (a b : List ℕ) → clashes a b ≡ false → clashes b a ≡ false
-clashes_back a b e = or_swap (is_folder_of b a) (is_folder_of a b) ∙ e
+clashes_back a b e = or_swap (is_below b a) (is_below a b) ∙ e
 
 none_clash : (path : List ℕ) (es : List (List ℕ × Entry)) → first_clash es path ≡ None → AllByRecursion (λ d. clashes path d.0 ≡ false) es
 none_clash path [] e = tt

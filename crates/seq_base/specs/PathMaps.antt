@@ -1,10 +1,11 @@
 -- Maps from paths, as lists in the byte order of their paths (git-ls-tree(1), its full names).
 use Rattle.std.specs.Prelude.{◌≡◌, ℕ, ◌+◌, ◌<◌, ◌≤◌, Bool, true, false, ◌&&◌, ◌||◌, ◌==◌, if◌then◌else◌, List, [], ◌∷◌, ◌++◌, length, take, drop, Option, Some, None}
-use Rattle.std.specs.List.{AllByRecursion, starts_with}
+use Rattle.std.specs.List.{AllByRecursion}
 use Rattle.std.specs.Ordering.{nat_cmp, is_lt}
 use Rattle.std.specs.Cmp.Lexicographic.{slice_cmp}
 use Rattle.std.specs.Str.{bytes_eq}
 use Rattle.seq_base.specs.Words.{Path}
+use Rattle.seq_base.specs.World.{is_below}
 use Rattle.seq_base.specs.declared.map.Entry.{Entry}
 use Rattle.seq_base.specs.declared.mode.Mode.TheVariants.{Folder}
 use Rattle.seq_base.specs.Modes.{mode_number}
@@ -24,13 +25,9 @@ same_entry (Some a) (Some b) = mode_number a.mode == mode_number b.mode && bytes
 abbrev pub is_less : Path → Path → Bool
 is_less a b = is_lt (slice_cmp nat_cmp a b)
 
--- b lies below a, taken as a folder: it begins with it, and a slash follows
-abbrev pub is_folder_of : Path → Path → Bool
-is_folder_of a b = starts_with (λ x y. x == y) b a && starts_with (λ x y. x == y) (drop (length a) b) (47 ∷ [])
-
 -- one lies below the other
 abbrev pub clashes : Path → Path → Bool
-clashes a b = is_folder_of a b || is_folder_of b a
+clashes a b = is_below a b || is_below b a
 
 -- each path comes before those that follow
 abbrev pub IsAscending : Entries → Type 0

@@ -7,7 +7,7 @@ ghost use Rattle.std.specs.Str.{IsUtf8};
 ghost use Rattle.hex.specs.Hex.{encode_lower, encode_upper};
 ghost use Rattle.seq_base.specs.Ids.{HasIdWidth, SpellsId};
 ghost use Rattle.seq_base.specs.Modes.{mode_number, mode_text, octal};
-ghost use Rattle.seq_base.specs.PathMaps.{IsPathMap, clashes, entry_at, is_folder_of, is_less, put};
+ghost use Rattle.seq_base.specs.PathMaps.{IsPathMap, clashes, entry_at, is_less, put};
 ghost use Rattle.seq_base.specs.RefNames.{IsRefName};
 ghost use Rattle.seq_base.specs.Repository.{is_in_place};
 ghost use Rattle.seq_base.specs.StorePaths.{IsStorePath};
@@ -48,8 +48,7 @@ pub fn bad_part_is_first(bytes: &[u8], at: usize)
 
 /// A path lies below another where it goes on behind it with a slash.
 pub fn path_below_goes_on(folder: &[u8], path: &[u8])
-    ensures tracked { (is_folder_of folder.now path.now ≡ true) ↔ ((rest : List ℕ) × (path.now ≡ folder.now ++ 47 ∷ rest)) }
-    ensures stored { (is_below folder.now path.now ≡ true) ↔ ((rest : List ℕ) × (path.now ≡ folder.now ++ 47 ∷ rest)) }
+    ensures { (is_below folder.now path.now ≡ true) ↔ ((rest : List ℕ) × (path.now ≡ folder.now ++ 47 ∷ rest)) }
 {}
 
 /// A path map has its paths in byte order, none below another, and no folder.

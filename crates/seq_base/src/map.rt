@@ -3,12 +3,13 @@
 ghost use Rattle.std.specs.Prelude.{◌≡◌, ◌≢◌, ◌≤◌, IfErr, MatchOption, None, OnErr, OnOk, Some, [], length, slice_get};
 ghost use Rattle.std.specs.Cmp.Lexicographic.{slice_cmp};
 ghost use Rattle.std.specs.Ordering.{nat_cmp};
-ghost use Rattle.seq_base.specs.PathMaps.{is_less, is_folder_of, clashes, entry_at, put, first_clash, IsPathMap, IsPlace};
+ghost use Rattle.seq_base.specs.PathMaps.{is_less, clashes, entry_at, put, first_clash, IsPathMap, IsPlace};
 ghost use Rattle.seq_base.specs.InsertFaults.{IsInsertFault};
 
 use crate::id::Id;
 use crate::mode::Mode;
 use crate::path::{Path, comes_before};
+use crate::store_path::lies_below;
 use std::alloc::{AllocError, Global};
 use std::cmp::Ordering;
 use std::marker::Model;
@@ -133,16 +134,10 @@ fn entry_of(entries: &[(Path, Entry)], path: &Path) -> Option<Entry>
     }
 }
 
-fn is_below(folder: &[u8], path: &[u8]) -> bool
-    ensures { result ≡ is_folder_of folder.now path.now }
-{
-    path.starts_with(folder) && path[folder.len()..].starts_with(b"/")
-}
-
 fn do_clash(a: &[u8], b: &[u8]) -> bool
     ensures { result ≡ clashes a.now b.now }
 {
-    is_below(a, b) || is_below(b, a)
+    lies_below(a, b) || lies_below(b, a)
 }
 
 fn clash_of<'a>(entries: &'a [(Path, Entry)], path: &Path) -> Option<&'a Path>

@@ -1,13 +1,11 @@
 //! A spawner in memory.
 
-ghost use Rattle.std.specs.FinMap as map;
 ghost use Rattle.std.specs.List.{AllByRecursion};
-ghost use Rattle.std.specs.Prelude.{◌≡◌, ◌+◌, ◌≤◌, ◌∷◌, ◌++◌, [], IfOk, List, OnErr, OnOk, Some, None, false, length, option_map, true, vec_len, ℕ};
+ghost use Rattle.std.specs.Prelude.{◌≡◌, ◌+◌, ◌∷◌, ◌++◌, [], IfOk, OnErr, OnOk, Some, None, false, true, vec_len};
 ghost use Rattle.seq_base.specs.StorePaths.{IsStorePath};
 ghost use Rattle.seq_outside.specs.Seen.{Goes};
-ghost use Rattle.seq_memory.specs.Children.{HasNoFault, WriteStorePaths, changed, is_written, noted_as, written};
-ghost use Rattle.std.specs.Ordering.{eq_by_cmp};
-ghost use Rattle.seq_base.specs.World.{path_cmp};
+ghost use Rattle.seq_outside.specs.Store.{StaysElsewhere, StaysOutside};
+ghost use Rattle.seq_memory.specs.Children.{LeavesIfWell, WriteStorePaths, changed, is_written, noted_as, written};
 
 use crate::answer::{Answer, Noted};
 use seq_base::Bytes;
@@ -137,8 +135,8 @@ fn make_writes<S: Store>(
     writes: &[(Bytes, Option<Bytes>)],
 ) -> Result<(), AllocError>
     requires { AllByRecursion (λ change. IsStorePath change.0) writes.now }
-    ensures exact { S.told → HasNoFault (S.seen store.old) (S.seen store.new) → OnOk result ((S.seen store.new).content ≡ written (S.seen store.old).content writes.now) }
-    ensures elsewhere { S.told → (path : List ℕ) → is_written writes.now path ≡ false → map.get (S.seen store.new).content path ≡ map.get (S.seen store.old).content path }
+    ensures exact { S.told → LeavesIfWell result (S.seen store.old) (written (S.seen store.old).content writes.now) (S.seen store.new) }
+    ensures elsewhere { S.told → StaysOutside (is_written writes.now) (S.seen store.old).content (S.seen store.new).content }
     ensures store { Goes S.told (S.seen store.old) (S.seen store.new) }
 {
     let mut rest = writes;
@@ -155,8 +153,8 @@ fn make_write<S: Store>(
     write: &(Bytes, Option<Bytes>),
 ) -> Result<(), AllocError>
     requires { IsStorePath write.now.0 }
-    ensures exact { S.told → HasNoFault (S.seen store.old) (S.seen store.new) → OnOk result ((S.seen store.new).content ≡ changed (S.seen store.old).content write.now.0 write.now.1) }
-    ensures elsewhere { S.told → (other : List ℕ) → eq_by_cmp path_cmp other write.now.0 ≡ false → map.get (S.seen store.new).content other ≡ map.get (S.seen store.old).content other }
+    ensures exact { S.told → LeavesIfWell result (S.seen store.old) (changed (S.seen store.old).content write.now.0 write.now.1) (S.seen store.new) }
+    ensures elsewhere { S.told → StaysElsewhere write.now.0 (S.seen store.old).content (S.seen store.new).content }
     ensures store { Goes S.told (S.seen store.old) (S.seen store.new) }
 {
     match &write.1 {
@@ -172,8 +170,8 @@ fn write_file<S: Store>(
     bytes: &[u8],
 ) -> Result<(), AllocError>
     requires { IsStorePath path.now }
-    ensures exact { S.told → HasNoFault (S.seen store.old) (S.seen store.new) → OnOk result ((S.seen store.new).content ≡ changed (S.seen store.old).content path.now (Some bytes.now)) }
-    ensures elsewhere { S.told → (other : List ℕ) → eq_by_cmp path_cmp other path.now ≡ false → map.get (S.seen store.new).content other ≡ map.get (S.seen store.old).content other }
+    ensures exact { S.told → LeavesIfWell result (S.seen store.old) (changed (S.seen store.old).content path.now (Some bytes.now)) (S.seen store.new) }
+    ensures elsewhere { S.told → StaysElsewhere path.now (S.seen store.old).content (S.seen store.new).content }
     ensures store { Goes S.told (S.seen store.old) (S.seen store.new) }
 {
     match store.put(alloc, path, bytes) {
@@ -185,8 +183,8 @@ fn write_file<S: Store>(
 
 fn remove_file<S: Store>(alloc: Global, store: &mut S, path: &[u8]) -> Result<(), AllocError>
     requires { IsStorePath path.now }
-    ensures exact { S.told → HasNoFault (S.seen store.old) (S.seen store.new) → OnOk result ((S.seen store.new).content ≡ changed (S.seen store.old).content path.now None) }
-    ensures elsewhere { S.told → (other : List ℕ) → eq_by_cmp path_cmp other path.now ≡ false → map.get (S.seen store.new).content other ≡ map.get (S.seen store.old).content other }
+    ensures exact { S.told → LeavesIfWell result (S.seen store.old) (changed (S.seen store.old).content path.now None) (S.seen store.new) }
+    ensures elsewhere { S.told → StaysElsewhere path.now (S.seen store.old).content (S.seen store.new).content }
     ensures store { Goes S.told (S.seen store.old) (S.seen store.new) }
 {
     match store.remove(alloc, path) {

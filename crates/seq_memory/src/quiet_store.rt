@@ -40,7 +40,7 @@ impl QuietStore {
     }
 }
 
-#[tactic(auto, using(crate::proofs::Contents::content_none, crate::proofs::Contents::content_put, crate::proofs::Contents::first_kept, crate::proofs::Contents::none_kept))]
+#[tactic(auto, using(crate::proofs::Contents::given_files))]
 fn files_from(alloc: Global, content: &[(Bytes, Bytes)]) -> Result<Vec<(Bytes, Bytes)>, AllocError>
     requires { IsTrue (is_content_of content.now) }
     ensures kept { IfOk result (λ files. IsKept files.items) }
@@ -59,7 +59,14 @@ fn files_from(alloc: Global, content: &[(Bytes, Bytes)]) -> Result<Vec<(Bytes, B
 impl Store for QuietStore {
     ghost told = { Unit {0} };
 
-    ghost seen = { λ store. record { content = content_of store.files.items; faults = 0; blocked = store.refused; lender = 0; beneath = map.empty; beneath_blocked = 0 } };
+    ghost seen = { λ store. record {
+      content = content_of store.files.items;
+      faults = 0;
+      blocked = store.refused;
+      lender = 0;
+      beneath = map.empty;
+      beneath_blocked = 0;
+    } };
 
     ghost shaped = { λ store _. store.shaped };
 
@@ -85,7 +92,7 @@ impl Store for QuietStore {
         }
     }
 
-    #[tactic(auto, using(crate::proofs::Contents::content_get, crate::proofs::Contents::content_remove, crate::proofs::Contents::sorted_without, crate::proofs::Contents::removed_store_paths, seq_base::proofs::Shape::removed_world, seq_base::specs::Steps::world_steps))]
+    #[tactic(auto, using(crate::proofs::Contents::file_removed))]
     fn remove(&mut self, _alloc: Global, path: &[u8]) -> Result<bool, StoreError> {
         Ok(take_file(&mut self.files, path))
     }

@@ -2,10 +2,11 @@
 use Rattle.std.specs.Prelude.{◌≡◌, ◌⊎◌, ℕ, ℤ, ◌++◌, take, List, Some, Result, Ok, Err}
 use Rattle.seq_base.specs.Words.{Id, Text}
 use Rattle.seq_base.specs.World.{World}
+use Rattle.seq_model.specs.Built.{meant}
 use Rattle.seq_model.specs.Changes.{KeepsRepository}
-use Rattle.seq_model.specs.Picked.{picked}
+use Rattle.seq_model.specs.Commands.{command_of}
 use Rattle.seq_model.specs.Report.{report_of}
-use Rattle.seq_model.specs.Words.{words_read}
+use Rattle.seq_model.specs.declared.command.Command.{Command}
 use Rattle.seq_model.specs.declared.outcome.Outcome.{Outcome}
 use Rattle.seq_model.specs.declared.outcome.Outcome.TheVariants.{Done, Stopped, Usage, Refused, StoreFault, ChildFault, OutputFault, Limit, Memory}
 use Rattle.seq_model.specs.declared.denial.Denial.{Denial}
@@ -19,15 +20,15 @@ use Rattle.seq_outside.specs.declared.env.Env.{Env}
 -- ---- what is answered, and what it leaves
 
 -- the outcome of a pick
-abbrev pub ended : Result (Id × World) Denial → Outcome
-ended (Ok made) = Done (Some made.0)
+abbrev pub ended : Result Id Denial → Outcome
+ended (Ok id) = Done (Some id)
 ended (Err (denied.Refused refusal)) = Refused refusal
 ended (Err (denied.Limit what number)) = Limit what number
 
--- the world that a pick makes, or the one that it was asked in
-abbrev pub aimed : World → Result (Id × World) Denial → World
-aimed w (Ok made) = made.1
-aimed w (Err denial) = w
+-- the world that a pick makes; where it is denied nothing is made, and it is the one that it was asked in
+abbrev pub aimed : World → Result Id Denial × World → World
+aimed w (Ok id, v) = v
+aimed w (Err denial, v) = w
 
 -- By what is meant: the answer, unless the store failed or memory ran out.
 abbrev pub FitsWorld : Outcome → Outcome → Type 0
@@ -55,8 +56,8 @@ Leaves (Limit what number) old aim new = new ≡ old
 Leaves Memory old aim new = IsToward old aim new
 
 -- the outcome is what was meant, and leaves what it is to
-pub record Fits (old new : World) (means : Result (Id × World) Denial) (outcome : Outcome) : Type 0 where
-  pub answer : FitsWorld outcome (ended means)
+pub record Fits (old new : World) (means : Result Id Denial × World) (outcome : Outcome) : Type 0 where
+  pub answer : FitsWorld outcome (ended means.0)
   pub leaves : Leaves outcome old (aimed old means) new
 
 -- nothing was made
@@ -86,40 +87,49 @@ IsOfPick Memory = Unit {0}
 -- ---- moments
 
 -- It was judged at a moment that the clock told.
-pub record IsAtMoment {C : Type 0} (told : Type 0) (ticked : C → ℤ → C → Type 0) (means : ℤ → Result (Id × World) Denial) (old : World) (clock : C) (new : World) (clock' : C) (outcome : Outcome) : Type 0 where
+pub record IsAtMoment {C : Type 0} (told : Type 0) (ticked : C → ℤ → C → Type 0) (means : ℤ → Result Id Denial × World) (old : World) (clock : C) (new : World) (clock' : C) (outcome : Outcome) : Type 0 where
   pub secs : ℤ
   pub ticks : ticked clock secs clock'
   pub fits : told → Fits old new (means secs) outcome
 
 -- It was judged at no moment: whatever the moment, it is so, and nothing is changed.
-pub record IsAtNone {C : Type 0} (told : Type 0) (means : ℤ → Result (Id × World) Denial) (old : World) (clock : C) (new : World) (clock' : C) (outcome : Outcome) : Type 0 where
+pub record IsAtNone {C : Type 0} (told : Type 0) (means : ℤ → Result Id Denial × World) (old : World) (clock : C) (new : World) (clock' : C) (outcome : Outcome) : Type 0 where
   pub ticks_not : clock' ≡ clock
   pub unmade : IsUnmade outcome
-  pub fits : told → (secs : ℤ) → FitsWorld outcome (ended (means secs))
+  pub fits : told → (secs : ℤ) → FitsWorld outcome (ended (means secs).0)
   pub same : told → new ≡ old
 
 -- at the one or the other
-abbrev pub IsJudged : {C : Type 0} → Type 0 → (C → ℤ → C → Type 0) → (ℤ → Result (Id × World) Denial) → World → C → World → C → Outcome → Type 0
+abbrev pub IsJudged : {C : Type 0} → Type 0 → (C → ℤ → C → Type 0) → (ℤ → Result Id Denial × World) → World → C → World → C → Outcome → Type 0
 IsJudged told ticked means old clock new clock' outcome = IsAtMoment told ticked means old clock new clock' outcome ⊎ IsAtNone told means old clock new clock' outcome
 
--- A pick of the commit that a word names: a moment before the store is asked, and one for the commit.
-pub record Picks {C : Type 0} (told : Type 0) (ticked : C → ℤ → C → Type 0) (env : Env) (word : Text) (old : World) (clock : C) (new : World) (clock' : C) (outcome : Outcome) : Type 0 where
+-- What a command asks for: a moment before the store is asked, and one for the commit that it makes.
+pub record Does {C : Type 0} (told : Type 0) (ticked : C → ℤ → C → Type 0) (env : Env) (command : Command) (old : World) (clock : C) (new : World) (clock' : C) (outcome : Outcome) : Type 0 where
   pub first : ℤ
   pub between : C
   pub ticks : ticked clock first between
   pub kind : IsOfPick outcome
-  pub judged : IsJudged told ticked (λ secs. picked env secs word old) old between new clock' outcome
+  pub judged : IsJudged told ticked (λ secs. meant env command secs old) old between new clock' outcome
 
--- Bad words: Usage, or want of memory to say the word; neither the store nor the clock was asked.
-pub record IsUsage {C : Type 0} (told : Type 0) (fault : UsageFault) (old : World) (clock : C) (new : World) (clock' : C) (outcome : Outcome) : Type 0 where
-  pub answer : (outcome ≡ Usage fault) ⊎ (outcome ≡ Memory)
+-- Neither the store nor the clock was asked.
+pub record AsksNothing {C : Type 0} (old : Seen) (clock : C) (new : Seen) (clock' : C) : Type 0 where
   pub clock_same : clock' ≡ clock
-  pub same : told → new ≡ old
+  pub same : new ≡ old
+
+-- Memory ran out as good words were read.
+pub record IsUnread {C : Type 0} (old : Seen) (clock : C) (new : Seen) (clock' : C) (outcome : Outcome) : Type 0 where
+  pub answer : outcome ≡ Memory
+  pub nothing : AsksNothing old clock new clock'
+
+-- Bad words: Usage, or want of memory to read or say them.
+pub record IsUsage {C : Type 0} (fault : UsageFault) (old : Seen) (clock : C) (new : Seen) (clock' : C) (outcome : Outcome) : Type 0 where
+  pub answer : (outcome ≡ Usage fault) ⊎ (outcome ≡ Memory)
+  pub nothing : AsksNothing old clock new clock'
 
 -- by the words
-abbrev pub Judges : {C : Type 0} → Type 0 → (C → ℤ → C → Type 0) → Result Text UsageFault → Env → World → C → World → C → Outcome → Type 0
-Judges told ticked (Ok word) env old clock new clock' outcome = Picks told ticked env word old clock new clock' outcome
-Judges told ticked (Err fault) env old clock new clock' outcome = IsUsage told fault old clock new clock' outcome
+abbrev pub Judges : {C : Type 0} → Type 0 → (C → ℤ → C → Type 0) → Result Command UsageFault → Env → Seen → C → Seen → C → Outcome → Type 0
+Judges told ticked (Ok command) env old clock new clock' outcome = Does told ticked env command old.content clock new.content clock' outcome ⊎ IsUnread old clock new clock' outcome
+Judges told ticked (Err fault) env old clock new clock' outcome = IsUsage fault old clock new clock' outcome
 
 -- ---- printing
 
@@ -182,7 +192,7 @@ outside store clock printed sink_faults = record { store = store; clock = clock;
 -- tells.
 pub record Answers {C : Type 0} (told sink_told : Type 0) (ticked : C → ℤ → C → Type 0) (words : List Text) (env : Env) (old new : Outside C) (outcome : Outcome) : Type 0 where
   pub judged : Outcome
-  pub judges : Judges told ticked (words_read words) env old.store.content old.clock new.store.content new.clock judged
+  pub judges : Judges told ticked (command_of words) env old.store old.clock new.store new.clock judged
   pub keeps : told → KeepsRepository old.store.content new.store.content
   pub fits_judged : FitsJudged outcome judged
   pub prints : sink_told → Prints outcome judged old.printed new.printed

@@ -9,7 +9,6 @@ pub mod Refusals
 pub mod Report
 pub mod Status
 pub mod Refusing
-pub mod Words
 pub mod Ids
 pub mod Branches
 pub mod Unbuilt
@@ -19,3 +18,8 @@ pub mod Pick
 pub mod Picked
 pub mod Changes
 pub mod Answers
+pub mod Rows
+pub mod Given
+pub mod Faults
+pub mod Commands
+pub mod Built

@@ -2,16 +2,21 @@
 //! invocation, what each prints, and its exit status.
 #![tactic(auto)]
 
+mod command;
 mod committer;
 mod denial;
+mod form;
 mod outcome;
 mod reason;
 mod refusal;
 mod stop;
 mod usage;
+mod verb;
 
+pub use command::{Command, Empty, Options, PlumbWords, StartWords, Values};
 pub use committer::Committer;
 pub use denial::Denial;
+pub use form::Form;
 pub use outcome::{Outcome, Paths};
 pub use reason::Reason;
 pub use refusal::Refusal;
@@ -19,3 +24,4 @@ pub use seq_outside::LimitWhat;
 pub use stop::StopKind;
 pub use todo_text::TodoKind;
 pub use usage::UsageFault;
+pub use verb::{Action, Verb};

@@ -152,9 +152,6 @@ module _ (xs ys : List Write) (x : Write) (is : ys ≡ with_last xs x) where
   pub set_done : (w : World) → written w ys ≡ after (written w xs) x
   set_done w = rw is (written_last w xs x)
 
-  pub set_draft : AreApart xs → AllByRecursion HasStorePath xs → HasStorePath x → is_draft ys ≡ true
-  set_draft apart paths path = rw is (draft_from (with_last xs x) (apart_last xs x apart) (all_last HasStorePath xs x paths path))
-
 pub removed_absent : (w : World) (path : List ℕ) → None ≡ map.get w path → w ≡ map.remove w path
 removed_absent w path absent = same_world w (map.remove w path) (λ q. at q (eq_by_cmp path_cmp q path) refl ∙ sym (get-remove nat_list_cmp_total w path q))
   where

@@ -1,4 +1,5 @@
 pub mod Firsts
+pub mod Turning
 pub mod Written
 pub mod Drafts
 pub mod Free

@@ -1,5 +1,5 @@
 -- The changes of a draft, with those of objects before all others: they lead to the same world, and nothing blocks them.
-use Rattle.std.proofs.Common.{◌≡◌, ◌⊎◌, inl, inr, ℕ, zero, suc, ◌+◌, Bool, true, false, not, ◌&&◌, ◌||◌, cond, List, [], ◌∷◌, ◌++◌, length, take, drop, is_some, refl, sym, ap, subst, ◌∙◌}
+use Rattle.std.proofs.Common.{◌≡◌, ◌⊎◌, inl, inr, ℕ, zero, suc, Bool, true, false, not, cond, List, [], ◌∷◌, ◌++◌, take, is_some, refl, sym, ap, ◌∙◌}
 use Rattle.std.specs.Prelude.{codes, filter}
 use Rattle.std.proofs.lemmas.Bool.{and_from, and_parts, both_ways, not-true, not_from_false, or_from, or_left, or_parts, or_right}
 use Rattle.std.specs.FinMap as map
@@ -10,8 +10,8 @@ use Rattle.seq_base.proofs.Shape.{equal_to_itself, free_from, free_of, same_path
 use Rattle.seq_outside.specs.declared.write.Write.{Write}
 use Rattle.seq_outside.specs.declared.write.Write.TheVariants.{Put, Remove}
 use Rattle.seq_outside.specs.Drafts.{AreApart}
-use Rattle.seq_outside.specs.Writes.{AreObjectsFirst, IsBetween, IsFront, IsOnTheWay, after, are_free, is_about_objects, is_at, is_free, is_object_file, is_of_objects, is_of_others, is_written, left_by, objects_first, path_of, written}
-use Rattle.seq_outside.proofs.Drafts.{apart_back, first_stays, get_after, other_path, same_world, written-append, written_elsewhere}
+use Rattle.seq_outside.specs.Writes.{AreObjectsFirst, IsFront, IsOnTheWay, after, are_free, is_about_objects, is_at, is_free, is_object_file, is_of_objects, is_of_others, is_written, left_by, objects_first, path_of, written}
+use Rattle.seq_outside.proofs.Drafts.{apart_back, first_stays, get_after, same_world, written-append, written_elsewhere}
 
 -- ---- paths below the folder of objects
 
@@ -276,36 +276,45 @@ module _ (old : World) (xs : List Write) (apart : AreApart xs) where
   other_writes = filter is_of_others xs
 
   -- a front of all
-  module _ (now : World) (m : ℕ) (is : now ≡ written old (take m (objects_first xs))) (objects : AreObjectsFirst old (written old xs) now) where
+  module _ (now : World) (front : IsFront old (objects_first xs) now) (objects : AreObjectsFirst old (written old xs) now) where
     way : IsOnTheWay old (written old xs) now
     way = record {
       writes = objects_first xs;
       leads = first_world old xs apart;
-      front = record { made = m; is = is };
-      between = λ q. at q (front_between old m (objects_first xs) (first_apart xs apart) q);
+      front = front;
+      between = λ q. at q (front_between old front.made (objects_first xs) (first_apart xs apart) q);
       objects = objects;
     }
       where
-        at : (q : List ℕ) → (map.get (written old (take m (objects_first xs))) q ≡ map.get old q) ⊎ (map.get (written old (take m (objects_first xs))) q ≡ map.get (written old (objects_first xs)) q) → (map.get now q ≡ map.get old q) ⊎ (map.get now q ≡ map.get (written old xs) q)
-        at q (inl same) = inl (ap (λ (w : World). map.get w q) is ∙ same)
-        at q (inr aimed) = inr (ap (λ (w : World). map.get w q) is ∙ aimed ∙ ap (λ (w : World). map.get w q) (first_world old xs apart))
+        at : (q : List ℕ) → (map.get (written old (take front.made (objects_first xs))) q ≡ map.get old q) ⊎ (map.get (written old (take front.made (objects_first xs))) q ≡ map.get (written old (objects_first xs)) q) → (map.get now q ≡ map.get old q) ⊎ (map.get now q ≡ map.get (written old xs) q)
+        at q (inl same) = inl (ap (λ (w : World). map.get w q) front.is ∙ same)
+        at q (inr aimed) = inr (ap (λ (w : World). map.get w q) front.is ∙ aimed ∙ ap (λ (w : World). map.get w q) (first_world old xs apart))
+
+  pub objects_front : (now : World) → IsFront old object_writes now → IsFront old (objects_first xs) now
+  objects_front now front = let all = take_front front.made object_writes other_writes in record { made = all.0; is = front.is ∙ ap (written old) all.1 }
 
   pub among_objects : (now : World) → IsFront old object_writes now → IsOnTheWay old (written old xs) now
   among_objects now front =
-      let all = take_front front.made object_writes other_writes in
-      way now all.0 (front.is ∙ ap (written old) all.1)
+      way now (objects_front now front)
       (inl (λ q other. ap (λ (w : World). map.get w q) front.is ∙ written_elsewhere old (take front.made object_writes) q (unwritten_taken front.made object_writes q (objects_named xs q other))))
 
-  pub among_others : (mid now : World) → mid ≡ written old object_writes → IsFront mid other_writes now → IsOnTheWay old (written old xs) now
-  among_others mid now mid_is front =
-      let all = take_behind front.made object_writes other_writes in
-      let from : now ≡ written (written old object_writes) (take front.made other_writes) = front.is ∙ ap (λ (w : World). written w (take front.made other_writes)) mid_is in
-      way now all.0 (from ∙ sym (written-append old object_writes (take front.made other_writes)) ∙ ap (written old) all.1)
-      (inr (λ q object.
-      ap (λ (w : World). map.get w q) from
-      ∙ written_elsewhere (written old object_writes) (take front.made other_writes) q (unwritten_taken front.made other_writes q (others_named xs q object))
-      ∙ sym (written_elsewhere (written old object_writes) other_writes q (others_named xs q object))
-      ∙ ap (λ (w : World). map.get w q) (sym (written-append old object_writes other_writes) ∙ first_world old xs apart)))
+  module _ (mid now : World) (mid_is : mid ≡ written old object_writes) (front : IsFront mid other_writes now) where
+    from : now ≡ written (written old object_writes) (take front.made other_writes)
+    from = front.is ∙ ap (λ (w : World). written w (take front.made other_writes)) mid_is
+
+    pub others_front : IsFront old (objects_first xs) now
+    others_front =
+        let all = take_behind front.made object_writes other_writes in
+        record { made = all.0; is = from ∙ sym (written-append old object_writes (take front.made other_writes)) ∙ ap (written old) all.1 }
+
+    pub among_others : IsOnTheWay old (written old xs) now
+    among_others =
+        way now others_front
+        (inr (λ q object.
+        ap (λ (w : World). map.get w q) from
+        ∙ written_elsewhere (written old object_writes) (take front.made other_writes) q (unwritten_taken front.made other_writes q (others_named xs q object))
+        ∙ sym (written_elsewhere (written old object_writes) other_writes q (others_named xs q object))
+        ∙ ap (λ (w : World). map.get w q) (sym (written-append old object_writes other_writes) ∙ first_world old xs apart)))
 
   pub all_made : (mid now : World) → mid ≡ written old object_writes → now ≡ written mid other_writes → now ≡ written old xs
   all_made mid now mid_is is = is ∙ ap (λ (w : World). written w other_writes) mid_is ∙ sym (written-append old object_writes other_writes) ∙ first_world old xs apart

@@ -14,14 +14,14 @@ use Rattle.seq_base.proofs.Shape.{same_path}
 use Rattle.seq_outside.specs.declared.store.StoreError.{StoreError}
 use Rattle.seq_outside.specs.declared.store.StoreError.TheVariants.{Failed, Blocked, Memory}
 use Rattle.seq_outside.specs.declared.write.Write.{Write}
-use Rattle.seq_outside.specs.Drafts.{AreApart, puts_below, slot_puts_below, with_last, without}
+use Rattle.seq_outside.specs.Drafts.{AreApart, is_draft, puts_below, slot_puts_below, with_last, without}
 use Rattle.seq_outside.specs.Slots.{AreChanges, SlotHasPath, SlotLeaves, all_chosen, chosen, cleared, kept, place_from}
 use Rattle.seq_outside.specs.Writes as Writes
-use Rattle.seq_outside.specs.Writes.{HasStorePath, IsFront, IsOnTheWay, are_free, is_at, is_of_objects, is_of_others, is_written, left_by, path_of, written}
+use Rattle.seq_outside.specs.Writes.{HasStorePath, IsFront, IsOnTheWay, are_free, is_at, is_of_objects, is_of_others, is_written, left_by, objects_first, path_of, written}
 use Rattle.seq_outside.proofs.Firsts.{first_and_others}
-use Rattle.seq_outside.proofs.ObjectsFirst.{all_made, among_objects, among_others, objects_free, others_free}
+use Rattle.seq_outside.proofs.ObjectsFirst.{all_made, among_objects, among_others, objects_free, objects_front, others_free, others_front}
 use Rattle.seq_outside.proofs.Written.{Way, done, goes_on, next_free, on_the_way}
-use Rattle.seq_outside.proofs.Drafts.{all_last, apart_last, first_stays, other_path, path_without, without_none}
+use Rattle.seq_outside.proofs.Drafts.{all_last, apart_last, draft_apart, first_stays, other_path, path_without, without_none}
 
 pub kept-append : (xs ys : List (Option Write)) → kept (xs ++ ys) ≡ kept xs ++ kept ys
 kept-append [] ys = refl
@@ -311,9 +311,15 @@ all_chosen_made of_objects old now writes (slot ∷ slots) none way = absurd (om
 
 -- ---- both parts
 
-module _ (old : World) (slots : List (Option Write)) (apart : AreApart (kept slots)) where
+module _ (old : World) (slots : List (Option Write)) (draft : is_draft (kept slots) ≡ true) where
+  apart : AreApart (kept slots)
+  apart = draft_apart (kept slots) draft
+
   pub objects_part : (now : World) → IsFront old (all_chosen true slots) now → IsOnTheWay old (written old (kept slots)) now
   objects_part now front = among_objects old (kept slots) apart now (subst (λ (xs : List Write). IsFront old xs now) (chosen_objects slots) front)
+
+  pub objects_part_front : (now : World) → IsFront old (all_chosen true slots) now → IsFront old (objects_first (kept slots)) now
+  objects_part_front now front = objects_front old (kept slots) apart now (subst (λ (xs : List Write). IsFront old xs now) (chosen_objects slots) front)
 
   pub objects_part_free : are_free old (kept slots) ≡ true → are_free old (all_chosen true slots) ≡ true
   objects_part_free free = ap (are_free old) (chosen_objects slots) ∙ objects_free old (kept slots) apart free
@@ -324,6 +330,9 @@ module _ (old : World) (slots : List (Option Write)) (apart : AreApart (kept slo
 
     pub others_part : (now : World) → IsFront mid (all_chosen false slots) now → IsOnTheWay old (written old (kept slots)) now
     others_part now front = among_others old (kept slots) apart mid now made_is (subst (λ (xs : List Write). IsFront mid xs now) (chosen_others slots) front)
+
+    pub others_part_front : (now : World) → IsFront mid (all_chosen false slots) now → IsFront old (objects_first (kept slots)) now
+    others_part_front now front = others_front old (kept slots) apart mid now made_is (subst (λ (xs : List Write). IsFront mid xs now) (chosen_others slots) front)
 
     pub others_part_free : are_free old (kept slots) ≡ true → are_free mid (all_chosen false slots) ≡ true
     others_part_free free = ap (are_free mid) (chosen_others slots) ∙ others_free old (kept slots) apart mid made_is free

@@ -1,6 +1,5 @@
 -- How a step that may stop goes with what it is to do.
 use Rattle.std.specs.Prelude.{◌≡◌, Bool, true, false, Option, Some, None, Result, Ok, Err}
-use Rattle.seq_base.specs.World.{World}
 use Rattle.seq_outside.specs.Seen.{Cause}
 use Rattle.seq_outside.specs.Seen.Cause.{ByFault, ByNone}
 use Rattle.seq_outside.specs.declared.halt.Halt.{Halt}

@@ -27,9 +27,13 @@ ended events = count_by is_end events
 abbrev pub MayStart : ℕ → ℕ → List Logged → ℕ → Type 0
 MayStart width jobs front job = (job ≡ started front + 1) × (job ≤ jobs) × (started front < ended front + width)
 
--- An end is of a job that was started and has not ended, and comes where no job can be started.
+-- a job that was started and has not ended
+abbrev pub IsRunning : List Logged → ℕ → Type 0
+IsRunning front job = (0 < job) × (job ≤ started front) × (list_any (ends_job job) front ≡ false)
+
+-- An end is of a running job, and comes where no job can be started.
 abbrev pub MayEnd : ℕ → ℕ → List Logged → ℕ → Type 0
-MayEnd width jobs front job = (0 < job) × (job ≤ started front) × (list_any (ends_job job) front ≡ false) × (started front ≡ min jobs (ended front + width))
+MayEnd width jobs front job = IsRunning front job × (started front ≡ min jobs (ended front + width))
 
 -- the log of a pool of so many jobs, numbered from 1, of which at most `width` run at once
 pub record IsPoolRun (width jobs : ℕ) (events : List Logged) : Type 0 where

@@ -5,7 +5,7 @@ use Rattle.seq_outside.specs.Causes.{Rose}
 use Rattle.seq_outside.specs.declared.store.StoreError.{StoreError}
 use Rattle.seq_outside.specs.declared.store.StoreError.TheVariants as store
 use Rattle.seq_outside.specs.declared.write.Write.{Write}
-use Rattle.seq_outside.specs.Writes.{written}
+use Rattle.seq_outside.specs.Writes.{IsOnTheWay, written}
 
 -- What it holds, where it tells it; how often it failed, and how many of its puts were blocked. A store over a lent one
 -- has the name of that reference, what the lent store holds and how many of its puts were blocked; any other has 0 and no file.
@@ -35,11 +35,19 @@ cause_of cause (Err e) = cause e
 
 -- what no call of a store changes, but for counts that may rise
 abbrev pub Stays : Type 0 → Seen → Seen → Type 0
-Stays told old new = (old.blocked ≤ new.blocked) × (new.lender ≡ old.lender) × (old.beneath_blocked ≤ new.beneath_blocked) × (told → new.beneath ≡ old.beneath)
+Stays told old new =
+    (old.blocked ≤ new.blocked)
+    × (new.lender ≡ old.lender)
+    × (old.beneath_blocked ≤ new.beneath_blocked)
+    × (told → new.beneath ≡ old.beneath)
 
 -- whatever is done with a store, and whatever ends it
 abbrev pub Goes : Type 0 → Seen → Seen → Type 0
 Goes told old new = (old.faults ≤ new.faults) × Stays told old new
+
+-- the count of faults rose, or that of blocked puts alone
+abbrev pub RoseEither : Seen → Seen → Type 0
+RoseEither old new = Rose old.faults new.faults ⊎ ((new.faults ≡ old.faults) × Rose old.blocked new.blocked)
 
 -- A fault comes only where the count of faults rose, and a blocked put only where that of blocked puts did. No other end
 -- moves the count of faults, and neither count falls.
@@ -47,12 +55,16 @@ abbrev pub HasCause : Type 0 → Cause → Seen → Seen → Type 0
 HasCause told ByNone old new = (new.faults ≡ old.faults) × Stays told old new
 HasCause told ByFault old new = (old.faults ≤ new.faults) × Rose old.faults new.faults × Stays told old new
 HasCause told ByBlock old new = (new.faults ≡ old.faults) × Rose old.blocked new.blocked × Stays told old new
-HasCause told ByEither old new = (old.faults ≤ new.faults) × (Rose old.faults new.faults ⊎ ((new.faults ≡ old.faults) × Rose old.blocked new.blocked)) × Stays told old new
+HasCause told ByEither old new = (old.faults ≤ new.faults) × RoseEither old new × Stays told old new
 
 -- no put was blocked
+abbrev pub NoneBlocked : Seen → Seen → Type 0
+NoneBlocked old new = (new.blocked ≡ old.blocked) × (new.beneath_blocked ≡ old.beneath_blocked)
+
+-- of a call that puts nothing
 abbrev pub HasReadCause : Type 0 → Cause → Seen → Seen → Type 0
-HasReadCause told ByNone old new = (new.faults ≡ old.faults) × Stays told old new
-HasReadCause told ByFault old new = (old.faults ≤ new.faults) × Rose old.faults new.faults × Stays told old new
+HasReadCause told ByNone old new = (new.faults ≡ old.faults) × NoneBlocked old new × Stays told old new
+HasReadCause told ByFault old new = (old.faults ≤ new.faults) × Rose old.faults new.faults × NoneBlocked old new × Stays told old new
 HasReadCause told ByBlock old new = ⊥
 HasReadCause told ByEither old new = ⊥
 
@@ -67,6 +79,10 @@ Reads told cause result old new = (told → new.content ≡ old.content) × HasR
 -- a store in which changes are made
 abbrev pub made : Seen → List Write → Seen
 made under changes = record under { content = written under.content changes }
+
+-- what stands of such a store, whatever ends the making of its changes
+abbrev pub MakesFront : Seen → List Write → Seen → Type 0
+MakesFront old changes new = IsOnTheWay old.content (written old.content changes) new.content
 
 -- a store over a lent one, with changes that are to be made, blocked puts of its own, and the name of its reference
 abbrev pub drafting : Seen → List Write → ℕ → ℕ → Seen

@@ -8,7 +8,7 @@ use Rattle.seq_base.specs.World.{World, path_cmp}
 use Rattle.seq_outside.specs.declared.store.StoreError.{StoreError}
 use Rattle.seq_outside.specs.declared.write.Write.{Write}
 use Rattle.seq_outside.specs.Drafts.{AreApart, puts_below}
-use Rattle.seq_outside.specs.Writes.{HasStorePath, WriteLeaves, is_at, is_of_objects}
+use Rattle.seq_outside.specs.Writes.{HasStorePath, WriteLeaves, is_at, is_of_objects, written}
 
 abbrev pub kept : List (Option Write) → List Write
 kept [] = []
@@ -39,6 +39,10 @@ chosen false (Some write) = if is_of_objects write then None else Some write
 
 abbrev pub all_chosen : Bool → List (Option Write) → List Write
 all_chosen of_objects slots = kept (map (chosen of_objects) slots)
+
+-- the writes of objects have been made, and no other
+abbrev pub HaveObjects : World → List (Option Write) → World → Type 0
+HaveObjects old slots now = now ≡ written old (all_chosen true slots)
 
 -- what a slot's write leaves, and an empty one nothing
 abbrev pub SlotLeaves : {T : Type 0} → Result T StoreError → World → Option Write → World → Type 0

@@ -1,5 +1,5 @@
 -- What an invocation sees of the outside, and what a reading still has of it.
-use Rattle.std.specs.Prelude.{◌≡◌, ℤ, ℕ, Bool, true, false, List, [], ◌∷◌, Option}
+use Rattle.std.specs.Prelude.{◌≡◌, ℤ, Bool, true, false, List, [], ◌∷◌}
 use Rattle.seq_base.specs.World.{World}
 use Rattle.seq_outside.specs.Child.{Noted}
 use Rattle.seq_outside.specs.declared.child.Exit.{Exit}
@@ -56,9 +56,9 @@ all_ended (n ∷ notes) = ended_of n ∷ all_ended notes
 -- what is seen, by sort
 abbrev pub coming : List Event → Coming
 coming [] = record { children = []; drivers = []; moments = [] }
-coming (SawChild n ∷ events) = let later = coming events in record { children = ended_of n ∷ later.children; drivers = later.drivers; moments = later.moments }
-coming (SawDrivers notes ∷ events) = let later = coming events in record { children = later.children; drivers = all_ended notes ∷ later.drivers; moments = later.moments }
-coming (SawMoment secs ∷ events) = let later = coming events in record { children = later.children; drivers = later.drivers; moments = secs ∷ later.moments }
+coming (SawChild n ∷ events) = let later = coming events in record later { children = ended_of n ∷ later.children }
+coming (SawDrivers notes ∷ events) = let later = coming events in record later { drivers = all_ended notes ∷ later.drivers }
+coming (SawMoment secs ∷ events) = let later = coming events in record later { moments = secs ∷ later.moments }
 
 -- ---- what was asked for
 

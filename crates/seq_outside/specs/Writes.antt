@@ -1,5 +1,6 @@
 -- Writes as data: a list of changes of files, and what a world is after them.
-use Rattle.std.specs.Prelude.{◌≡◌, ◌⊎◌, ℕ, Bool, true, false, not, ◌&&◌, List, [], ◌∷◌, ◌++◌, ◌||◌, take, filter, codes, Option, Some, None, Result, Ok, Err}
+use Rattle.std.specs.Prelude.{◌≡◌, ◌⊎◌, ℕ, Bool, true, false, not, ◌&&◌, ◌||◌, Option, Some, None, Result, Ok, Err}
+use Rattle.std.specs.Prelude.{List, [], ◌∷◌, ◌++◌, take, filter, codes}
 use Rattle.std.specs.FinMap as map
 use Rattle.std.specs.List.{list_any}
 use Rattle.std.specs.Ordering.{eq_by_cmp}
@@ -75,7 +76,8 @@ is_of_objects (Remove path) = is_about_objects path
 abbrev pub is_of_others : Write → Bool
 is_of_others write = not (is_of_objects write)
 
--- the writes of objects before all others
+-- The writes of objects before all others, each in its place else. An object that is removed goes with the first: before a ref that
+-- named it is changed.
 abbrev pub objects_first : List Write → List Write
 objects_first writes = filter is_of_objects writes ++ filter is_of_others writes
 
@@ -88,7 +90,8 @@ pub record IsFront (old : World) (writes : List Write) (now : World) : Type 0 wh
 abbrev pub IsBetween : World → World → World → Type 0
 IsBetween old aim now = (path : List ℕ) → (map.get now path ≡ map.get old path) ⊎ (map.get now path ≡ map.get aim path)
 
--- no file but objects is another one yet, or each object is as it is to be: so nothing names an object that is missing
+-- No file but objects is another one yet, or each object is as it is to be: so, where none is removed, nothing names an object that
+-- is missing.
 abbrev pub AreObjectsFirst : World → World → World → Type 0
 AreObjectsFirst old aim now =
     ((path : List ℕ) → is_about_objects path ≡ false → map.get now path ≡ map.get old path)

@@ -144,7 +144,6 @@ impl Changes {
     /// The changes in their order, with empty slots between.
     pub fn slots(&self) -> &[Option<Write>]
         ensures slots { kept result.now ≡ self.now }
-        ensures apart { AreApart self.now }
         ensures paths { AllByRecursion HasStorePath self.now }
     {
         &self.slots

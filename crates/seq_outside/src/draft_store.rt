@@ -1,11 +1,11 @@
 //! A store whose changes are made later, over a store that is lent.
 
 ghost use Rattle.std.specs.Prelude.{◌≡◌, [], IfOk, IsErrOf, OnErr, OnOk, true};
-ghost use Rattle.seq_outside.specs.Child.{Runs};
+ghost use Rattle.seq_outside.specs.Child.{HasChildCause, Runs};
 ghost use Rattle.seq_outside.specs.Drafts.{is_draft};
-ghost use Rattle.seq_outside.specs.Seen.{Reads, Writes, drafting, made, store_cause};
-ghost use Rattle.seq_outside.specs.Writes.{IsOnTheWay, are_free, written};
-ghost use Rattle.seq_outside.specs.Laws.{draft_paths, written_paths, written_world};
+ghost use Rattle.seq_outside.specs.Seen.{Goes, MakesFront, Reads, Writes, drafting, made, store_cause};
+ghost use Rattle.seq_outside.specs.Writes.{IsFront, are_free, objects_first, written};
+ghost use Rattle.seq_outside.specs.Laws.{drafted_paths, written_world};
 
 use crate::changes::Changes;
 use crate::child::{ChildError, Exit, Job, Spawner};
@@ -48,6 +48,7 @@ impl<'a, S: Store> DraftStore<'a, S> {
         requires { changes.old ≡ [] }
         ensures lent { result.store.now ≡ store.old }
         ensures none { result.changes.now ≡ [] }
+        ensures refused { result.refused ≡ 0 }
         ensures same_reference { result.store.ghost_name ≡ store.entry.ghost_name }
     {
         DraftStore {
@@ -58,11 +59,13 @@ impl<'a, S: Store> DraftStore<'a, S> {
     }
 
     /// Makes the changes in the lent store, the files of objects before all others and else in the order of the paths' last
-    /// changes, up to the first that fails. Then there is none. Whatever ends it, a front of them was made.
+    /// changes, up to the first that fails. Then there is none. Whatever ends it, a front of them in this order was made. An object
+    /// that is removed goes with the first, before a ref that named it is changed.
     pub fn make(&mut self, alloc: Global) -> Result<(), StoreError>
         ensures made { S.told → OnOk result ((S.seen self.new.store.now).content ≡ written (S.seen self.old.store.now).content self.old.changes.now) }
         ensures none { self.new.changes.now ≡ [] }
-        ensures on_the_way { S.told → IsOnTheWay (S.seen self.old.store.now).content (written (S.seen self.old.store.now).content self.old.changes.now) (S.seen self.new.store.now).content }
+        ensures front { S.told → IsFront (S.seen self.old.store.now).content (objects_first self.old.changes.now) (S.seen self.new.store.now).content }
+        ensures on_the_way { S.told → MakesFront (S.seen self.old.store.now) self.old.changes.now (S.seen self.new.store.now) }
         ensures not_blocked { S.told → IsErrOf result StoreError.Blocked → ⊥ }
         ensures writes { Writes S.told store_cause result (S.seen self.old.store.now) (S.seen self.new.store.now) }
         ensures refused { self.new.refused ≡ self.old.refused }
@@ -73,18 +76,25 @@ impl<'a, S: Store> DraftStore<'a, S> {
         made
     }
 
-    /// Makes the changes, and runs a child over what stands then. Behind Err none was run.
+    /// Makes the changes, and runs a child over what stands then. Behind Err none was run, and a front of the changes was made.
     pub fn run<P: Spawner<S>>(
         &mut self,
         alloc: Global,
         spawner: &mut P,
         job: &Job,
     ) -> Result<Result<Exit, ChildError>, StoreError>
-        ensures runs { S.told → IfOk result (λ exit. Runs S.told P.ran job.now spawner.old (made (S.seen self.old.store.now) self.old.changes.now) exit spawner.new (S.seen self.new.store.now)) }
+        ensures runs { S.told → IfOk result (λ exit. Runs S.told P.ran job.now
+            spawner.old (made (S.seen self.old.store.now) self.old.changes.now) exit spawner.new (S.seen self.new.store.now)) }
         ensures not_run { OnErr result (spawner.new ≡ spawner.old) }
         ensures none { self.new.changes.now ≡ [] }
-        ensures on_the_way { S.told → OnErr result (IsOnTheWay (S.seen self.old.store.now).content (written (S.seen self.old.store.now).content self.old.changes.now) (S.seen self.new.store.now).content) }
+        ensures front { S.told → OnErr result (IsFront
+            (S.seen self.old.store.now).content (objects_first self.old.changes.now) (S.seen self.new.store.now).content) }
+        ensures on_the_way { S.told → OnErr result (MakesFront (S.seen self.old.store.now) self.old.changes.now (S.seen self.new.store.now)) }
         ensures not_blocked { S.told → IsErrOf result StoreError.Blocked → ⊥ }
+        ensures cause { OnErr result (Writes S.told store_cause result (S.seen self.old.store.now) (S.seen self.new.store.now)) }
+        ensures child { IfOk result (λ exit. HasChildCause exit (P.faults spawner.old) (P.faults spawner.new)) }
+        ensures store { Goes S.told (S.seen self.old.store.now) (S.seen self.new.store.now) }
+        ensures refused { self.new.refused ≡ self.old.refused }
         ensures same_reference { self.new.store.ghost_name ≡ self.old.store.ghost_name }
     {
         self.make(alloc)?;
@@ -99,7 +109,7 @@ impl<S: Store> Store for DraftStore<'_, S> {
 
     ghost shaped = { λ d told. written_world (S.seen d.store.now).content d.changes.now (S.shaped d.store.now told) (d.free told) };
 
-    ghost at_store_paths = { λ d told. written_paths (S.seen d.store.now).content d.changes.now (S.at_store_paths d.store.now told) (draft_paths d.changes.now d.draft) };
+    ghost at_store_paths = { λ d told. drafted_paths (S.seen d.store.now).content d.changes.now (S.at_store_paths d.store.now told) d.draft };
 
     fn get(&mut self, alloc: Global, path: &[u8]) -> Result<Option<Vec<u8>>, StoreError> {
         get(alloc, self.changes, self.store, path)

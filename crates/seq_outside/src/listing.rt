@@ -3,11 +3,10 @@
 ghost use Rattle.std.specs.List.{AllByRecursion};
 ghost use Rattle.std.specs.Prelude.{◌≡◌, ◌∷◌, [], IfErr, IfOk, OnOk, filter};
 ghost use Rattle.seq_base.specs.StorePaths.{IsStorePath};
-ghost use Rattle.seq_base.specs.World.{World, is_below};
-ghost use Rattle.seq_outside.specs.Listing.{IsAt, IsGapFor, changes_in, drop_path as drop_path_of, is_listed as is_listed_below, put_path as put_path_of};
+ghost use Rattle.seq_outside.specs.Listing.{IsAt, IsGapFor, ListsMade, changes_in};
+ghost use Rattle.seq_outside.specs.Listing.{drop_path as drop_path_of, is_listed as is_listed_below, put_path as put_path_of};
 ghost use Rattle.seq_outside.specs.Slots.{kept};
-ghost use Rattle.seq_outside.specs.Store.{files_below};
-ghost use Rattle.seq_outside.specs.Writes.{HasStorePath, written};
+ghost use Rattle.seq_outside.specs.Writes.{HasStorePath};
 
 use crate::changes::Changes;
 use crate::write::Write;
@@ -102,7 +101,7 @@ pub(crate) fn listed(
     mut files: Vec<Bytes>,
     folder: &[u8],
 ) -> Result<Vec<Bytes>, AllocError>
-    ensures found { IfOk result (λ paths. (w : World) → files.items ≡ files_below w folder.now → paths.items ≡ files_below (written w changes.now) folder.now) }
+    ensures found { IfOk result (λ paths. ListsMade folder.now changes.now files.items paths.items) }
     ensures store_paths { AllByRecursion IsStorePath files.items → IfOk result (λ paths. AllByRecursion IsStorePath paths.items) }
 {
     change_files(alloc, &mut files, changes.slots())?;

@@ -2,10 +2,12 @@
 
 ghost use Rattle.std.specs.List.{AllByRecursion};
 ghost use Rattle.std.specs.Prelude.{◌≡◌, true, IfOk, IsErrOf, OnOk, option_map};
-ghost use Rattle.seq_outside.specs.Drafts.{AreApart};
-ghost use Rattle.seq_outside.specs.Seen.{Writes, store_cause};
-ghost use Rattle.seq_outside.specs.Slots.{SlotHasPath, SlotLeaves, all_chosen, chosen as chosen_in, kept};
-ghost use Rattle.seq_outside.specs.Writes.{HasStorePath, IsFront, IsOnTheWay, WriteLeaves, are_free, is_of_objects as is_of_objects_in, left_by, path_of, written};
+ghost use Rattle.seq_outside.specs.Drafts.{is_draft};
+ghost use Rattle.seq_outside.specs.Seen.{MakesFront, Writes, store_cause};
+ghost use Rattle.seq_base.specs.World.{World};
+ghost use Rattle.seq_outside.specs.Slots.{HaveObjects, SlotHasPath, SlotLeaves, all_chosen, chosen as chosen_in, kept};
+ghost use Rattle.seq_outside.specs.Writes.{HasStorePath, IsFront, IsOnTheWay, WriteLeaves, are_free, left_by, objects_first, path_of, written};
+ghost use Rattle.seq_outside.specs.Writes.{is_of_objects as is_of_objects_in};
 
 use crate::store::{Store, StoreError};
 use seq_base::{Bytes, lies_below};
@@ -116,19 +118,55 @@ fn make_part<S: Store>(
     Ok(())
 }
 
+/// Makes the writes that are of objects.
+fn make_objects<S: Store>(
+    alloc: Global,
+    store: &mut S,
+    slots: &[Option<Write>],
+) -> Result<(), StoreError>
+    requires { is_draft (kept slots.now) ≡ true }
+    ensures done { S.told → OnOk result (HaveObjects (S.seen store.old).content slots.now (S.seen store.new).content) }
+    ensures front { S.told → IsFront (S.seen store.old).content (objects_first (kept slots.now)) (S.seen store.new).content }
+    ensures on_the_way { S.told → MakesFront (S.seen store.old) (kept slots.now) (S.seen store.new) }
+    ensures free { S.told → are_free (S.seen store.old).content (kept slots.now) ≡ true → IsErrOf result StoreError.Blocked → ⊥ }
+    ensures writes { Writes S.told store_cause result (S.seen store.old) (S.seen store.new) }
+{
+    make_part(alloc, store, slots, true)
+}
+
+/// Makes the writes that are not of objects. What is said holds where those of objects have been made.
+fn make_others<S: Store>(
+    alloc: Global,
+    store: &mut S,
+    slots: &[Option<Write>],
+) -> Result<(), StoreError>
+    requires { is_draft (kept slots.now) ≡ true }
+    ensures done { S.told → (w : World) → HaveObjects w slots.now (S.seen store.old).content
+        → OnOk result ((S.seen store.new).content ≡ written w (kept slots.now)) }
+    ensures front { S.told → (w : World) → HaveObjects w slots.now (S.seen store.old).content
+        → IsFront w (objects_first (kept slots.now)) (S.seen store.new).content }
+    ensures on_the_way { S.told → (w : World) → HaveObjects w slots.now (S.seen store.old).content
+        → IsOnTheWay w (written w (kept slots.now)) (S.seen store.new).content }
+    ensures free { S.told → (w : World) → HaveObjects w slots.now (S.seen store.old).content
+        → are_free w (kept slots.now) ≡ true → IsErrOf result StoreError.Blocked → ⊥ }
+    ensures writes { Writes S.told store_cause result (S.seen store.old) (S.seen store.new) }
+{
+    make_part(alloc, store, slots, false)
+}
+
 /// Makes the writes, those of objects before all others, up to the first that fails.
 pub(crate) fn make_all<S: Store>(
     alloc: Global,
     store: &mut S,
     slots: &[Option<Write>],
 ) -> Result<(), StoreError>
-    requires apart { AreApart (kept slots.now) }
-    requires paths { AllByRecursion HasStorePath (kept slots.now) }
+    requires { is_draft (kept slots.now) ≡ true }
     ensures done { S.told → OnOk result ((S.seen store.new).content ≡ written (S.seen store.old).content (kept slots.now)) }
-    ensures on_the_way { S.told → IsOnTheWay (S.seen store.old).content (written (S.seen store.old).content (kept slots.now)) (S.seen store.new).content }
+    ensures front { S.told → IsFront (S.seen store.old).content (objects_first (kept slots.now)) (S.seen store.new).content }
+    ensures on_the_way { S.told → MakesFront (S.seen store.old) (kept slots.now) (S.seen store.new) }
     ensures free { S.told → are_free (S.seen store.old).content (kept slots.now) ≡ true → IsErrOf result StoreError.Blocked → ⊥ }
     ensures writes { Writes S.told store_cause result (S.seen store.old) (S.seen store.new) }
 {
-    make_part(alloc, store, slots, true)?;
-    make_part(alloc, store, slots, false)
+    make_objects(alloc, store, slots)?;
+    make_others(alloc, store, slots)
 }

@@ -4,3 +4,4 @@ pub mod Idents
 pub mod Lines
 pub mod Owning
 pub mod Repositories
+pub mod Committed

@@ -1,5 +1,5 @@
 -- Which files the steps of a pick change.
-use Rattle.std.proofs.Common.{◌≡◌, inl, inr, Bool, true, false, refl, ap, ◌∙◌}
+use Rattle.std.proofs.Common.{◌≡◌, inl, inr, false, refl, ◌∙◌}
 use Rattle.std.specs.FinMap as map
 use Rattle.std.specs.Ordering.{eq_by_cmp}
 use Rattle.std.proofs.lemmas.Bool.{false_from_ne_true}
@@ -16,9 +16,6 @@ use Rattle.worktree.specs.Own.{IsOwn}
 
 pub owned_both : (old mid new : World) → Changes old mid → Changes mid new → Changes old new
 owned_both old mid new first second = record { others = λ path not_own. second.others path not_own ∙ first.others path not_own }
-
-pub owned_none : (old new : World) → new ≡ old → Changes old new
-owned_none old new same = record { others = λ path not_own. ap (λ (w : World). map.get w path) same }
 
 pub objects_owned : (old new : World) → ((path : Path) → is_object_place path ≡ false → map.get new path ≡ map.get old path) → Changes old new
 objects_owned old new elsewhere = record { others = λ path not_own. elsewhere path (false_from_ne_true (is_object_place path) (λ here. not_own (IsObject here))) }

@@ -133,7 +133,8 @@ fn refuse_obstructed<S: Store>(
 ) -> Result<(), Halt<Denial>>
     requires order { IsInOrder index.now }
     requires few { length map.now < 2 ^ 32 }
-    ensures gives { S.told → Gives (λ x. x) result (refuse_found (first_obstructed (S.seen store.old).content index.now map.now) Refusal.WouldOverwrite) }
+    ensures gives { S.told → Gives (λ x. x) result
+        (refuse_found (first_obstructed (S.seen store.old).content index.now map.now) Refusal.WouldOverwrite) }
     ensures reads { Reads S.told halt_cause result (S.seen store.old) (S.seen store.new) }
 {
     match obstructed_path(alloc, store, index, map)? {

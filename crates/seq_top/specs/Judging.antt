@@ -6,7 +6,7 @@ use Rattle.seq_model.specs.Answers.{aimed}
 use Rattle.seq_model.specs.declared.denial.Denial.{Denial}
 use Rattle.seq_model.specs.declared.denial.Denial.TheVariants as denied
 use Rattle.seq_model.specs.declared.outcome.Outcome.{Outcome}
-use Rattle.seq_model.specs.declared.outcome.Outcome.TheVariants.{Done, Refused, StoreFault, Limit, Memory}
+use Rattle.seq_model.specs.declared.outcome.Outcome.TheVariants.{Done, Refused, StoreFault, ChildFault, OutputFault, Limit, Memory}
 use Rattle.seq_outside.specs.Causes.{Rose}
 use Rattle.seq_outside.specs.Seen.{Seen}
 use Rattle.seq_outside.specs.Writes.{IsToward}
@@ -22,9 +22,9 @@ outcome_of (Err halts.Fault) = StoreFault
 outcome_of (Err halts.Memory) = Memory
 
 -- What was drafted is made, and the world is what was meant; or it is refused, and all is as it was; or a front of the changes was made.
-abbrev pub Ends : Result Id (Halt Denial) → World → Result (Id × World) Denial → World → Type 0
-Ends (Ok id) old means new = means ≡ Ok (id, new)
-Ends (Err (halts.Stops denial)) old means new = (means ≡ Err denial) × (new ≡ old)
+abbrev pub Ends : Result Id (Halt Denial) → World → Result Id Denial × World → World → Type 0
+Ends (Ok id) old means new = means ≡ (Ok id, new)
+Ends (Err (halts.Stops denial)) old means new = (means.0 ≡ Err denial) × (new ≡ old)
 Ends (Err halts.Fault) old means new = IsToward old (aimed old means) new
 Ends (Err halts.Memory) old means new = IsToward old (aimed old means) new
 
@@ -40,4 +40,6 @@ HasEndCause told (Err halts.Memory) old new = new.faults ≡ old.faults
 
 abbrev pub HasJudgedCause : Type 0 → Outcome → Seen → Seen → Type 0
 HasJudgedCause told StoreFault old new = HasFault told old new
+HasJudgedCause told ChildFault old new = ⊥
+HasJudgedCause told OutputFault old new = ⊥
 HasJudgedCause told outcome old new = new.faults ≡ old.faults

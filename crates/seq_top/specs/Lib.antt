@@ -1,2 +1,1 @@
-pub mod BadWords
 pub mod Judging

@@ -1,20 +1,24 @@
 //! What the words ask for, done in a draft that is made where nothing is refused.
 
 ghost use Rattle.std.specs.Prelude.{◌≡◌, [], Err};
-ghost use Rattle.seq_model.specs.Answers.{IsJudged, IsOfPick, Judges, Picks, ended};
+ghost use Rattle.seq_model.specs.Answers.{Does, IsJudged, IsOfPick, IsUnmade, FitsWorld, Judges, ended};
+ghost use Rattle.seq_model.specs.Built.{not_built};
 ghost use Rattle.seq_model.specs.Changes.{Changes as ChangesOwn, KeepsRepository};
+ghost use Rattle.seq_model.specs.Commands.{command_of};
 ghost use Rattle.seq_model.specs.Picked.{finished, picked};
-ghost use Rattle.seq_model.specs.Words.{words_read};
 ghost use Rattle.seq_outside.specs.Env.{IsZone};
+ghost use Rattle.seq_outside.specs.Halts.{Denies, halt_cause};
+ghost use Rattle.seq_outside.specs.Seen.{HasReadCause};
 ghost use Rattle.seq_outside.specs.Writes.{written};
 ghost use Rattle.seq_pick.specs.Preparing.{IsReady, prepared_is};
 ghost use Rattle.seq_top.specs.Judging.{Ends, HasEndCause, HasJudgedCause, outcome_of};
 
-use crate::words::{BadWords, read_words};
+use crate::built::commit_to_pick;
 use seq_base::{Bytes, Id};
-use seq_model::{Denial, Outcome};
+use seq_model::{Command, Denial, Outcome, Refusal};
 use seq_outside::{Changes, Clock, DraftStore, Env, Halt, Store};
 use seq_pick::{Prepared, finish, prepare};
+use seq_words::{BadWords, read_words};
 use std::alloc::Global;
 
 fn denied(denial: Denial) -> Outcome
@@ -96,14 +100,59 @@ fn pick<S: Store, C: Clock>(
     clock: &mut C,
 ) -> Outcome
     requires { IsZone env.now.zone }
-    ensures picks { Picks S.told C.ticked env.now word.now (S.seen store.old).content clock.old (S.seen store.new).content clock.new result }
+    ensures judged { IsJudged S.told C.ticked (λ secs. picked env.now secs word.now (S.seen store.old).content)
+        (S.seen store.old).content clock.old (S.seen store.new).content clock.new result }
+    ensures kind { IsOfPick result }
+    ensures keeps { S.told → KeepsRepository (S.seen store.old).content (S.seen store.new).content }
+    ensures cause { HasJudgedCause S.told result (S.seen store.old) (S.seen store.new) }
+{
+    let mut changes = Changes::new(alloc);
+    let mut draft = DraftStore::new(store, &mut changes);
+    pick_in(alloc, env, word, &mut draft, clock)
+}
+
+/// Why a command that is not built yet is refused.
+#[tactic(auto, unfolding(seq_model::specs::Built::not_built))]
+fn unbuilt<S: Store>(alloc: Global, store: &mut S) -> Halt<Denial>
+    ensures denies { S.told → Denies result (not_built (S.seen store.old).content) }
+    ensures same { S.told → (S.seen store.new).content ≡ (S.seen store.old).content }
+    ensures cause { HasReadCause S.told (halt_cause result) (S.seen store.old) (S.seen store.new) }
+{
+    match store.get(alloc, b".git/HEAD") {
+        Ok(Some(_)) => Halt::Stops(Denial::Refused(Refusal::NotBuilt)),
+        Ok(None) => Halt::Stops(Denial::Refused(Refusal::NotARepository)),
+        Err(error) => Halt::from(error),
+    }
+}
+
+/// A command that is not built yet is refused.
+fn refuse<S: Store>(alloc: Global, store: &mut S) -> Outcome
+    ensures unmade { IsUnmade result }
+    ensures fits { S.told → FitsWorld result (ended (not_built (S.seen store.old).content)) }
+    ensures same { S.told → (S.seen store.new).content ≡ (S.seen store.old).content }
+    ensures cause { HasJudgedCause S.told result (S.seen store.old) (S.seen store.new) }
+{
+    outcome(Err(unbuilt(alloc, store)))
+}
+
+/// What a command asks for.
+fn perform<S: Store, C: Clock>(
+    alloc: Global,
+    env: &Env,
+    command: &Command,
+    store: &mut S,
+    clock: &mut C,
+) -> Outcome
+    requires { IsZone env.now.zone }
+    ensures does { Does S.told C.ticked env.now command.now (S.seen store.old).content clock.old (S.seen store.new).content clock.new result }
     ensures keeps { S.told → KeepsRepository (S.seen store.old).content (S.seen store.new).content }
     ensures cause { HasJudgedCause S.told result (S.seen store.old) (S.seen store.new) }
 {
     let _first = clock.now();
-    let mut changes = Changes::new(alloc);
-    let mut draft = DraftStore::new(store, &mut changes);
-    pick_in(alloc, env, word, &mut draft, clock)
+    match commit_to_pick(command) {
+        Some(word) => pick(alloc, env, word, store, clock),
+        None => refuse(alloc, store),
+    }
 }
 
 /// What the words ask for is done; the outcome is not printed yet.
@@ -115,13 +164,12 @@ pub fn judge<S: Store, C: Clock>(
     clock: &mut C,
 ) -> Outcome
     requires { IsZone env.now.zone }
-    ensures judges { Judges S.told C.ticked (words_read words.now) env.now
-        (S.seen store.old).content clock.old (S.seen store.new).content clock.new result }
+    ensures judges { Judges S.told C.ticked (command_of words.now) env.now (S.seen store.old) clock.old (S.seen store.new) clock.new result }
     ensures keeps { S.told → KeepsRepository (S.seen store.old).content (S.seen store.new).content }
     ensures cause { HasJudgedCause S.told result (S.seen store.old) (S.seen store.new) }
 {
-    match read_words(words) {
-        Ok(word) => pick(alloc, env, word, store, clock),
+    match read_words(alloc, words) {
+        Ok(command) => perform(alloc, env, &command, store, clock),
         Err(BadWords::Usage(fault)) => Outcome::Usage(fault),
         Err(BadWords::Memory) => Outcome::Memory,
     }

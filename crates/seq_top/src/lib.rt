@@ -1,9 +1,9 @@
 //! One invocation of the program: its words in, its report and exit status out.
 #![tactic(auto)]
 
+mod built;
 mod invocation;
 mod judging;
-mod words;
 
 pub use invocation::{invoke, run};
 pub use report_text::report;

@@ -5,7 +5,8 @@ use Rattle.std.specs.List.{AllByRecursion}
 use Rattle.std.proofs.lemmas.Bool.{and_from, not_from_false, or_left}
 use Rattle.std.proofs.lemmas.List.{map-append}
 use Rattle.seq_base.specs.declared.map.Entry.{Entry}
-use Rattle.seq_base.specs.PathMaps.{AreApart, HoldsFiles, IsAscending, IsPathMap, clashes, is_folder_of, is_less}
+use Rattle.seq_base.specs.PathMaps.{AreApart, HoldsFiles, IsAscending, IsPathMap, clashes, is_less}
+use Rattle.seq_base.specs.World.{is_below}
 use Rattle.index_file.specs.declared.entry.IndexEntry.{IndexEntry}
 use Rattle.index_file.specs.Entries.{IsInOrder, IsIndex, IsStaged, comes_before, holds, may_precede}
 use Rattle.index_file.specs.Index.{indexed}
@@ -17,7 +18,7 @@ entry_of e = record { path = e.0; stage = 0; mode = e.1.mode; id = e.1.id }
 rows_precede : (e : List ℕ × Entry) (es : Entries) → AllByRecursion (λ d. is_less e.0 d.0 ≡ true) es → AllByRecursion (λ d. clashes e.0 d.0 ≡ false) es → AllByRecursion (λ d. may_precede (entry_of e) d ≡ true) (indexed es)
 rows_precede e [] less apart = tt
 rows_precede e (d ∷ es) less apart =
-    (and_from (comes_before (entry_of e) (entry_of d)) (not (holds (entry_of e) (entry_of d))) (or_left (is_less e.0 d.0) _ less.0) (not_from_false (is_folder_of e.0 d.0) (neither (is_folder_of e.0 d.0) (is_folder_of d.0 e.0) apart.0)), rows_precede e es less.1 apart.1)
+    (and_from (comes_before (entry_of e) (entry_of d)) (not (holds (entry_of e) (entry_of d))) (or_left (is_less e.0 d.0) _ less.0) (not_from_false (is_below e.0 d.0) (neither (is_below e.0 d.0) (is_below d.0 e.0) apart.0)), rows_precede e es less.1 apart.1)
   where
     neither : (a b : Bool) → a || b ≡ false → a ≡ false
     neither true b h = absurd cc

@@ -6,8 +6,20 @@ ghost use Rattle.index_file.specs.Index.{indexed};
 ghost use Rattle.stage_index.specs.Stages.{map_of};
 
 use index_file::IndexEntry;
-use seq_base::PathMap;
+use seq_base::{Entry, Path, PathMap};
 use std::alloc::{AllocError, Global};
+
+/// The entry of a path, merged.
+fn merged(path: Path, entry: Entry) -> IndexEntry
+    ensures { result ≡ record { path = path; stage = 0; mode = entry.mode; id = entry.id } }
+{
+    IndexEntry {
+        path,
+        stage: 0,
+        mode: entry.mode,
+        id: entry.id,
+    }
+}
 
 fn copied(alloc: Global, map: &PathMap) -> Result<Vec<IndexEntry>, AllocError>
     ensures { IfOk result (λ entries. entries.items ≡ indexed map.now) }
@@ -16,12 +28,7 @@ fn copied(alloc: Global, map: &PathMap) -> Result<Vec<IndexEntry>, AllocError>
     let mut n = 0;
     while let Some((path, entry)) = map.at(n) {
         let _length = map.len();
-        entries.push(IndexEntry {
-            path: path.copy()?,
-            stage: 0,
-            mode: entry.mode,
-            id: entry.id,
-        })?;
+        entries.push(merged(path.copy()?, entry))?;
         n += 1;
     }
     Ok(entries)

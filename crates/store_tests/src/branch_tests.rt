@@ -3,9 +3,10 @@
 ghost use Rattle.std.specs.Prelude.{IfOk};
 ghost use Rattle.ref_text.specs.Logs.{IsLogValue};
 
+use crate::ref_tests::is_at;
 use ident_text::parse_ident;
-use ref_store::move_branch;
-use ref_text::LogLine;
+use ref_store::{move_branch, resolve, set_head};
+use ref_text::{Head, LogLine};
 use seq_base::{Bytes, Id};
 use seq_memory::QuietStore;
 use seq_outside::{Changes, DraftStore, Halt, Lack, Store};
@@ -50,12 +51,14 @@ fn a_pick_moves_the_branch(rt: HostRuntime) -> Result<(), Fail> {
     store.put(
         alloc,
         b".git/logs/refs/heads/main",
-        b"0000000000000000000000000000000000000000 7a140acc37e4ab8eeea8e633d9bb4c93b8ac8ca7 C O Mitter <committer@example.com> 1112911993 -0700\tbranch: Created from HEAD\n",
+        b"0000000000000000000000000000000000000000 7a140acc37e4ab8eeea8e633d9bb4c93b8ac8ca7 \
+            C O Mitter <committer@example.com> 1112911993 -0700\tbranch: Created from HEAD\n",
     )?;
     store.put(
         alloc,
         b".git/logs/HEAD",
-        b"7a140acc37e4ab8eeea8e633d9bb4c93b8ac8ca7 7a140acc37e4ab8eeea8e633d9bb4c93b8ac8ca7 C O Mitter <committer@example.com> 1112911993 -0700\tcheckout: moving from start to main\n",
+        b"7a140acc37e4ab8eeea8e633d9bb4c93b8ac8ca7 7a140acc37e4ab8eeea8e633d9bb4c93b8ac8ca7 \
+            C O Mitter <committer@example.com> 1112911993 -0700\tcheckout: moving from start to main\n",
     )?;
     let line = picked(alloc)?;
     let moved = move_branch(alloc, &mut store, b"refs/heads/main", line.new, &line);
@@ -64,13 +67,45 @@ fn a_pick_moves_the_branch(rt: HostRuntime) -> Result<(), Fail> {
     assert_eq!(rt; files.len(), 3);
     assert!(rt;
         files[0].1.as_slice()
-            == b"7a140acc37e4ab8eeea8e633d9bb4c93b8ac8ca7 7a140acc37e4ab8eeea8e633d9bb4c93b8ac8ca7 C O Mitter <committer@example.com> 1112911993 -0700\tcheckout: moving from start to main\n7a140acc37e4ab8eeea8e633d9bb4c93b8ac8ca7 29feb880af6959f90d379da21b517ddc87a7c0df C O Mitter <committer@example.com> 1112912053 -0700\tcherry-pick: add b\n".as_slice()
+            == b"7a140acc37e4ab8eeea8e633d9bb4c93b8ac8ca7 7a140acc37e4ab8eeea8e633d9bb4c93b8ac8ca7 \
+                C O Mitter <committer@example.com> 1112911993 -0700\tcheckout: moving from start to main\n\
+                7a140acc37e4ab8eeea8e633d9bb4c93b8ac8ca7 29feb880af6959f90d379da21b517ddc87a7c0df \
+                C O Mitter <committer@example.com> 1112912053 -0700\tcherry-pick: add b\n"
+                .as_slice()
     );
     assert!(rt;
         files[1].1.as_slice()
-            == b"0000000000000000000000000000000000000000 7a140acc37e4ab8eeea8e633d9bb4c93b8ac8ca7 C O Mitter <committer@example.com> 1112911993 -0700\tbranch: Created from HEAD\n7a140acc37e4ab8eeea8e633d9bb4c93b8ac8ca7 29feb880af6959f90d379da21b517ddc87a7c0df C O Mitter <committer@example.com> 1112912053 -0700\tcherry-pick: add b\n".as_slice()
+            == b"0000000000000000000000000000000000000000 7a140acc37e4ab8eeea8e633d9bb4c93b8ac8ca7 \
+                C O Mitter <committer@example.com> 1112911993 -0700\tbranch: Created from HEAD\n\
+                7a140acc37e4ab8eeea8e633d9bb4c93b8ac8ca7 29feb880af6959f90d379da21b517ddc87a7c0df \
+                C O Mitter <committer@example.com> 1112912053 -0700\tcherry-pick: add b\n"
+                .as_slice()
     );
     assert!(rt; files[2].1.as_slice() == b"29feb880af6959f90d379da21b517ddc87a7c0df\n".as_slice());
+    Ok(())
+}
+
+// As `git checkout --detach` and `git symbolic-ref HEAD` leave HEAD.
+#[test]
+fn head_is_set_to_a_commit_and_to_a_branch(rt: HostRuntime) -> Result<(), Fail> {
+    let alloc = rt.alloc();
+    let mut store = QuietStore::new(alloc, &[])?;
+    let line = picked(alloc)?;
+    let head = Head::Detached(Id::from_bytes(PICKED));
+    let detached = set_head(alloc, &mut store, &head, &line);
+    assert!(rt; detached.is_ok());
+    let found = resolve(alloc, &mut store, b"HEAD");
+    assert!(rt; is_at(found, b"29feb880af6959f90d379da21b517ddc87a7c0df"));
+    let files = store.content();
+    assert_eq!(rt; files.len(), 2);
+    assert!(rt; files[0].1.as_slice() == b"29feb880af6959f90d379da21b517ddc87a7c0df\n".as_slice());
+    let name = Bytes::from_vec(b"refs/heads/a/b".to_vec(alloc)?);
+    let head = Head::Branch(name);
+    let attached = set_head(alloc, &mut store, &head, &line);
+    assert!(rt; attached.is_ok());
+    let files = store.content();
+    assert_eq!(rt; files.len(), 2);
+    assert!(rt; files[0].1.as_slice() == b"ref: refs/heads/a/b\n".as_slice());
     Ok(())
 }
 

@@ -1,4 +1,4 @@
-//! Tests of the crates over a store: files, children, a clock and a sink in memory, drafts, objects, trees, refs and the worktree.
+//! Tests of the crates over a store: files, children, a clock and a sink in memory, drafts, objects, trees, refs and the worktree; and words that name commits.
 #![tactic(auto)]
 
 #[cfg(test)]
@@ -13,6 +13,10 @@ mod memory_tests;
 mod object_tests;
 #[cfg(test)]
 mod prefix_tests;
+#[cfg(test)]
+mod ref_tests;
+#[cfg(test)]
+mod rev_tests;
 #[cfg(test)]
 mod sink_tests;
 #[cfg(test)]

@@ -5,7 +5,8 @@ use Rattle.std.specs.Option.{option_map}
 use Rattle.std.specs.List.{AllByRecursion, cons_option, list_any, filter_map}
 use Rattle.std.specs.Str.{bytes_eq}
 use Rattle.seq_base.specs.declared.map.Entry.{Entry}
-use Rattle.seq_base.specs.PathMaps.{AreApart, IsPathMap, clashes, entry_at, is_folder_of, is_less, same_entry}
+use Rattle.seq_base.specs.World.{is_below}
+use Rattle.seq_base.specs.PathMaps.{AreApart, IsPathMap, clashes, entry_at, is_less, same_entry}
 use Rattle.tree_merge.specs.declared.rules.Choice.{Choice}
 use Rattle.tree_merge.specs.declared.rules.Choice.TheVariants.{Take, Content, Conflict}
 use Rattle.tree_merge.specs.declared.plans.Planned.{Planned}
@@ -54,7 +55,7 @@ apart_first p (e ∷ es) q h there = at (apart_first p es q h.1) (bytes_eq e.0 q
     at rest false is there = rest there
 
 folder_self_none : (p q : List ℕ) → clashes p q ≡ false → clashes q p ≡ false
-folder_self_none p q h = or_swap (is_folder_of q p) (is_folder_of p q) ∙ h
+folder_self_none p q h = or_swap (is_below q p) (is_below p q) ∙ h
 
 apart_pair : (es : Entries) (p q : List ℕ) → AreApart es → is_some (entry_at es p) ≡ true → is_some (entry_at es q) ≡ true → bytes_eq p q ≡ false → clashes p q ≡ false
 apart_pair [] p q h there also ne = absurd cc
@@ -130,8 +131,8 @@ module _ (b o t : Entries) (maps : AreMaps b o t) (calm : HasNoClash (plan_of b 
   good p = is_some (taken_at b o t p) ≡ true
 
   -- of two listed paths none is a folder of the other
-  not_folder : (j k : ℕ) (d : List ℕ) → j < length ps → k < length ps → is_listed (row_at b o t (get_or ps j d)) ≡ true → is_listed (row_at b o t (get_or ps k d)) ≡ true → good (get_or ps j d) → good (get_or ps k d) → is_folder_of (get_or ps j d) (get_or ps k d) ≡ false
-  not_folder j k d lj lk listed_j listed_k gj gk = at (is_folder_of (get_or ps j d) (get_or ps k d)) refl
+  not_folder : (j k : ℕ) (d : List ℕ) → j < length ps → k < length ps → is_listed (row_at b o t (get_or ps j d)) ≡ true → is_listed (row_at b o t (get_or ps k d)) ≡ true → good (get_or ps j d) → good (get_or ps k d) → is_below (get_or ps j d) (get_or ps k d) ≡ false
+  not_folder j k d lj lk listed_j listed_k gj gk = at (is_below (get_or ps j d) (get_or ps k d)) refl
     where
       row_j : Planned
       row_j = row_at b o t (get_or ps j d)
@@ -139,7 +140,7 @@ module _ (b o t : Entries) (maps : AreMaps b o t) (calm : HasNoClash (plan_of b 
       none : is_upper (listed b o t) (row_at b o t (get_or ps j d)) ≡ false
       none = or_left _ _ (all_listed (row_at b o t) (λ r. (marked (listed b o t) r).clash ≡ false) ps (all_mapped (λ r. r.clash ≡ false) (marked (listed b o t)) (listed b o t) calm) j d lj listed_j)
 
-      at : (x : Bool) → is_folder_of (get_or ps j d) (get_or ps k d) ≡ x → x ≡ false
+      at : (x : Bool) → is_below (get_or ps j d) (get_or ps k d) ≡ x → x ≡ false
       at false e = refl
       at true e =
           let hit = any_listed (row_at b o t) (λ r. is_under (row_at b o t (get_or ps j d)) r) ps k d lk listed_k (ands _ _ _ (taken_present _ gj) (taken_present _ gk) e) in

@@ -1,5 +1,5 @@
 -- Paths below a path, among paths in order.
-use Rattle.std.proofs.Common.{◌≡◌, ℕ, zero, suc, ◌+◌, ◌<◌, ◌≤◌, ◌≢◌, Bool, true, false, cond, ltb, eqb, ◌||◌, ◌&&◌, List, [], ◌∷◌, length, take, drop, get_or, Ordering, refl, sym, ap, subst, ◌∙◌, arith}
+use Rattle.std.proofs.Common.{◌≡◌, ℕ, zero, suc, ◌+◌, ◌<◌, ◌≤◌, ◌≢◌, Bool, true, false, cond, ltb, eqb, ◌||◌, ◌&&◌, ◌==◌, slice_index, List, [], ◌∷◌, length, take, drop, get_or, Ordering, refl, sym, ap, subst, ◌∙◌, arith}
 use Rattle.std.specs.List.{list_any, starts_with}
 use Rattle.std.specs.Ordering.{nat_cmp, is_lt, ordering_then}
 use Rattle.std.specs.declared.cmp.Ordering.TheVariants.{Less, Equal, Greater}
@@ -7,7 +7,8 @@ use Rattle.std.specs.Cmp.Lexicographic.{slice_cmp}
 use Rattle.std.proofs.lemmas.Bool.Decides.{Decides-eqb, Decides-ltb}
 use Rattle.std.proofs.lemmas.List.{get_or_default, get_or-set_same, get_or-set_other}
 use Rattle.std.proofs.Math.ListN.{set}
-use Rattle.seq_base.specs.PathMaps.{is_folder_of, is_less}
+use Rattle.seq_base.specs.PathMaps.{is_less}
+use Rattle.seq_base.specs.World.{is_below}
 use Rattle.tree_merge.specs.declared.plans.Planned.{Planned}
 use Rattle.tree_merge.specs.Plans.{AreInOrder, is_present, is_under}
 use Rattle.tree_merge.proofs.Order.{not_both_less}
@@ -40,12 +41,12 @@ less_tail : (x : ℕ) (a b : List ℕ) → is_less (x ∷ a) (x ∷ b) ≡ is_le
 less_tail x a b = ap (λ (o : Ordering). is_lt (ordering_then o (slice_cmp nat_cmp a b))) (cmp_same x)
 
 -- what lies below a path comes behind it
-pub folder_less : (a b : List ℕ) → is_folder_of a b ≡ true → is_less a b ≡ true
+pub folder_less : (a b : List ℕ) → is_below a b ≡ true → is_less a b ≡ true
 folder_less [] [] e = absurd cc
 folder_less [] (y ∷ b) e = refl
 folder_less (x ∷ a) [] e = absurd cc
 folder_less (x ∷ a) (y ∷ b) e =
-    let p = both (begins (y ∷ b) (x ∷ a)) (begins (drop (length a) b) (47 ∷ [])) e in
+    let p = both (begins (y ∷ b) (x ∷ a)) (slice_index b (length a) == 47) e in
     let q = first_bytes x y a b p.0 in
     let k = folder_less a b (ands (begins b a) _ q.1 p.1) in
     subst (λ (z : ℕ). is_less (x ∷ a) (z ∷ b) ≡ true) q.0 (less_tail x a b ∙ k)
@@ -70,14 +71,14 @@ begins_between (x ∷ a) (y ∷ b) (z ∷ c) e l m =
     let m' : is_less b c ≡ true = sym (less_tail x b c) ∙ subst (λ (w : ℕ). is_less (x ∷ b) (w ∷ c) ≡ true) (sym p.0) (subst (λ (w : ℕ). is_less (w ∷ b) (z ∷ c) ≡ true) (sym same) m) in
     ands (eqb x y) (begins b a) ((Decides-eqb x y).1 same) (begins_between a b c p.1 l' m')
 
-under_parts : (u r : Planned) → is_under u r ≡ true → is_folder_of u.path r.path ≡ true
-under_parts u r e = (both (is_present r.choice) (is_folder_of u.path r.path) (both (is_present u.choice) _ e).1).1
+under_parts : (u r : Planned) → is_under u r ≡ true → is_below u.path r.path ≡ true
+under_parts u r e = (both (is_present r.choice) (is_below u.path r.path) (both (is_present u.choice) _ e).1).1
 
 -- nothing before a path lies below it
 pub none_under_before : (rows : List Planned) (i k : ℕ) (u d : Planned) → AreInOrder rows → u ≡ get_or rows i u → i < length rows → k < i + 1 → is_under u (get_or rows k d) ≡ false
 none_under_before rows i k u d order at_i within le = at (is_under u (get_or rows k d)) refl
   where
-    less : is_folder_of u.path (get_or rows k d).path ≡ true → is_less (get_or rows i d).path (get_or rows k d).path ≡ true
+    less : is_below u.path (get_or rows k d).path ≡ true → is_less (get_or rows i d).path (get_or rows k d).path ≡ true
     less e = subst (λ (w : Planned). is_less w.path (get_or rows k d).path ≡ true) (at_i ∙ get_or_default rows i u d within) (folder_less u.path (get_or rows k d).path e)
 
     at : (t : Bool) → is_under u (get_or rows k d) ≡ t → t ≡ false
@@ -95,7 +96,7 @@ none_under_behind rows i j k u d order at_i lt le within none = at (is_under u (
     is_u = get_or_default rows i d u (omega arith) ∙ sym at_i
 
     begins_k : is_under u (get_or rows k d) ≡ true → begins (get_or rows k d).path u.path ≡ true
-    begins_k e = (both (begins (get_or rows k d).path u.path) (begins (drop (length u.path) (get_or rows k d).path) (47 ∷ [])) (under_parts u (get_or rows k d) e)).0
+    begins_k e = (both (begins (get_or rows k d).path u.path) (slice_index (get_or rows k d).path (length u.path) == 47) (under_parts u (get_or rows k d) e)).0
 
     at : (t : Bool) → is_under u (get_or rows k d) ≡ t → t ≡ false
     at false e = refl

@@ -4,7 +4,8 @@ use Rattle.std.specs.Prelude.{◌≡◌, ℕ, ◌<◌, Bool, true, false, not, �
 use Rattle.std.specs.List.{list_any}
 use Rattle.std.specs.Str.{bytes_eq}
 use Rattle.seq_base.specs.declared.map.Entry.{Entry}
-use Rattle.seq_base.specs.PathMaps.{entry_at, is_folder_of, is_less, same_entry}
+use Rattle.seq_base.specs.World.{is_below}
+use Rattle.seq_base.specs.PathMaps.{entry_at, is_less, same_entry}
 use Rattle.tree_merge.specs.declared.rules.Choice.{Choice}
 use Rattle.tree_merge.specs.declared.rules.Choice.TheVariants.{Take, Content, Conflict}
 use Rattle.tree_merge.specs.declared.plans.Planned.{Planned}
@@ -47,7 +48,7 @@ listed base ours theirs = filter is_listed (map (row_at base ours theirs) (paths
 
 -- both paths have an entry after the merge, and the second lies below the first
 abbrev pub is_under : Planned → Planned → Bool
-is_under upper lower = is_present upper.choice && (is_present lower.choice && is_folder_of upper.path lower.path)
+is_under upper lower = is_present upper.choice && (is_present lower.choice && is_below upper.path lower.path)
 
 -- a path lies below this one
 abbrev pub is_upper : List Planned → Planned → Bool

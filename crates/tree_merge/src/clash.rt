@@ -2,13 +2,13 @@
 
 ghost use Rattle.std.specs.Prelude.{◌≡◌, ◌<◌, ◌||◌, ◌&&◌, ◌==◌, ℕ, false, not, map, IfOk, replicate, length, slice_index_or};
 ghost use Rattle.std.specs.List.{starts_with};
-ghost use Rattle.seq_base.specs.PathMaps.{is_folder_of};
 ghost use Rattle.tree_merge.specs.declared.plans.Planned.{Planned as PlannedValue};
 ghost use Rattle.tree_merge.specs.Plans.{AreInOrder, is_present, is_under, is_upper, marked};
 ghost use Rattle.tree_merge.specs.Marks.{AreMarks};
 
 use crate::plans::Planned;
 use crate::walk::has_entry;
+use seq_base::lies_below;
 use std::alloc::{AllocError, Global};
 
 fn is_row_under(upper: &Planned, lower: &Planned) -> bool
@@ -16,7 +16,7 @@ fn is_row_under(upper: &Planned, lower: &Planned) -> bool
 {
     has_entry(&upper.choice)
         && has_entry(&lower.choice)
-        && is_below(upper.path.bytes(), lower.path.bytes())
+        && lies_below(upper.path.bytes(), lower.path.bytes())
 }
 
 /// Whether the row's path begins with the bytes of the other's.
@@ -24,12 +24,6 @@ fn begins_with(row: &Planned, front: &Planned) -> bool
     ensures { result ≡ starts_with (λ x y. x == y) row.now.path front.now.path }
 {
     row.path.bytes().starts_with(front.path.bytes())
-}
-
-fn is_below(folder: &[u8], path: &[u8]) -> bool
-    ensures { result ≡ is_folder_of folder.now path.now }
-{
-    path.starts_with(folder) && path[folder.len()..].starts_with(b"/")
 }
 
 /// Marks the rows below row number i, and says whether there are any. They stand behind it, among those that begin with it.

@@ -1,15 +1,16 @@
 //! Cases of `config_text`.
 
-use crate::answer::Answer;
-use crate::fault::CaseFault;
-use crate::fields::Fields;
+use crate::failure::{Failure, value};
+use cases::{Answer, Case, CaseFault};
 use config_text::{Config, LineFault, parse_config};
-use std::alloc::{AllocError, Global};
+use std::alloc::AllocError;
 
-fn bad(out: &mut Answer, fault: LineFault) -> Result<(), AllocError> {
-    match fault {
-        LineFault::Bad { line } => out.counted(b"bad-line", line),
-        LineFault::Memory => Err(AllocError),
+impl Failure for LineFault {
+    fn tell(self, out: &mut Answer) -> Result<(), AllocError> {
+        match self {
+            LineFault::Bad { line } => out.counted(b"bad-line", line),
+            LineFault::Memory => Err(AllocError),
+        }
     }
 }
 
@@ -27,43 +28,24 @@ fn put_settings(out: &mut Answer, config: &Config) -> Result<(), AllocError> {
 }
 
 /// TEXT: section, subsection, key and value of each setting.
-fn settings(alloc: Global, fields: &mut Fields<'_>, out: &mut Answer) -> Result<(), CaseFault> {
-    match parse_config(alloc, fields.bytes()?) {
-        Ok(config) => {
-            out.word(b"settings")?;
-            put_settings(out, &config)?;
-        }
-        Err(fault) => bad(out, fault)?,
-    }
+pub fn settings(case: &mut Case<'_>) -> Result<(), CaseFault> {
+    let parsed = parse_config(case.alloc, case.fields.bytes()?);
+    let config = value(parsed, &mut case.out)?;
+    case.out.word(b"settings")?;
+    put_settings(&mut case.out, &config)?;
     Ok(())
 }
 
 /// TEXT SECTION SUBSECTION KEY: the last value.
-fn value(alloc: Global, fields: &mut Fields<'_>, out: &mut Answer) -> Result<(), CaseFault> {
-    let config = match parse_config(alloc, fields.bytes()?) {
-        Ok(config) => config,
-        Err(fault) => return Ok(bad(out, fault)?),
-    };
-    let section = fields.bytes()?;
-    let sub = fields.bytes()?;
-    let key = fields.bytes()?;
+pub fn last_value(case: &mut Case<'_>) -> Result<(), CaseFault> {
+    let parsed = parse_config(case.alloc, case.fields.bytes()?);
+    let config = value(parsed, &mut case.out)?;
+    let section = case.fields.bytes()?;
+    let sub = case.fields.bytes()?;
+    let key = case.fields.bytes()?;
     match config.get(section, sub, key)? {
-        Some(value) => out.bytes(&value)?,
-        None => out.word(b"none")?,
+        Some(value) => case.out.bytes(&value)?,
+        None => case.out.word(b"none")?,
     }
     Ok(())
-}
-
-pub fn answer(
-    alloc: Global,
-    verb: &[u8],
-    fields: &mut Fields<'_>,
-    out: &mut Answer,
-) -> Result<bool, CaseFault> {
-    match verb {
-        b"config" => settings(alloc, fields, out)?,
-        b"config-value" => value(alloc, fields, out)?,
-        _ => return Ok(false),
-    }
-    Ok(true)
 }

@@ -1,8 +1,7 @@
 //! Cases of `grammar`.
 
-use crate::answer::Answer;
-use crate::fault::CaseFault;
-use crate::fields::Fields;
+use crate::failure::{Failure, value};
+use cases::{Answer, Case, CaseFault};
 use grammar::{
     ByteTest, ReadError, behind_literal, decimal_of, line_of_place, passing_front, word_of,
 };
@@ -21,6 +20,15 @@ impl ByteTest for Digit {
     }
 }
 
+impl Failure for ReadError {
+    fn tell(self, out: &mut Answer) -> Result<(), AllocError> {
+        match self {
+            ReadError::Memory => Err(AllocError),
+            ReadError::Stopped { left } => out.counted(b"stopped", left as u64),
+        }
+    }
+}
+
 /// A format of one line: `v`, two digits, `.`, digits, and the end of the line.
 fn minor_of(bytes: &[u8]) -> Result<(&[u8], &[u8]), ReadError> {
     let rest = behind_literal(b"v", bytes)?;
@@ -29,54 +37,31 @@ fn minor_of(bytes: &[u8]) -> Result<(&[u8], &[u8]), ReadError> {
     word_of(Digit, b'\n', rest)
 }
 
-fn stopped(out: &mut Answer, error: ReadError) -> Result<(), AllocError> {
-    match error {
-        ReadError::Memory => Err(AllocError),
-        ReadError::Stopped { left } => out.counted(b"stopped", left as u64),
-    }
-}
-
 /// TEXT
-fn minor(fields: &mut Fields<'_>, out: &mut Answer) -> Result<(), CaseFault> {
-    match minor_of(fields.bytes()?) {
-        Ok((minor, rest)) => {
-            out.bytes(minor)?;
-            out.bytes(rest)?;
-        }
-        Err(error) => stopped(out, error)?,
-    }
+pub fn minor(case: &mut Case<'_>) -> Result<(), CaseFault> {
+    let read = minor_of(case.fields.bytes()?);
+    let (minor, rest) = value(read, &mut case.out)?;
+    case.out.bytes(minor)?;
+    case.out.bytes(rest)?;
     Ok(())
 }
 
 /// TEXT
-fn decimal(fields: &mut Fields<'_>, out: &mut Answer) -> Result<(), CaseFault> {
-    match decimal_of(b' ', fields.bytes()?) {
-        Ok((number, rest)) => {
-            out.number(number)?;
-            out.bytes(rest)?;
-        }
-        Err(error) => stopped(out, error)?,
-    }
+pub fn decimal(case: &mut Case<'_>) -> Result<(), CaseFault> {
+    let read = decimal_of(b' ', case.fields.bytes()?);
+    let (number, rest) = value(read, &mut case.out)?;
+    case.out.number(number)?;
+    case.out.bytes(rest)?;
     Ok(())
 }
 
 /// PLACE TEXT
-fn line(fields: &mut Fields<'_>, out: &mut Answer) -> Result<(), CaseFault> {
-    let place = fields.number()?;
-    let text = fields.bytes()?;
+pub fn line(case: &mut Case<'_>) -> Result<(), CaseFault> {
+    let place = case.fields.number()?;
+    let text = case.fields.bytes()?;
     if place > text.len() as u64 {
         return Err(CaseFault::Value);
     }
-    out.number(line_of_place(text, place as usize))?;
+    case.out.number(line_of_place(text, place as usize))?;
     Ok(())
-}
-
-pub fn answer(verb: &[u8], fields: &mut Fields<'_>, out: &mut Answer) -> Result<bool, CaseFault> {
-    match verb {
-        b"minor" => minor(fields, out)?,
-        b"decimal" => decimal(fields, out)?,
-        b"line-of-place" => line(fields, out)?,
-        _ => return Ok(false),
-    }
-    Ok(true)
 }

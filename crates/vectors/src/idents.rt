@@ -1,15 +1,16 @@
 //! Cases of `ident_text`.
 
-use crate::answer::Answer;
-use crate::fault::CaseFault;
-use crate::fields::Fields;
+use crate::failure::{Failure, value};
+use cases::{Answer, Case, CaseFault};
 use ident_text::{Ident, IdentFault, author_script, ident_text, parse_author_script, parse_ident};
-use std::alloc::{AllocError, Global};
+use std::alloc::AllocError;
 
-fn bad(out: &mut Answer, fault: IdentFault) -> Result<(), AllocError> {
-    match fault {
-        IdentFault::Bad { at } => out.counted(b"bad", at),
-        IdentFault::Memory => Err(AllocError),
+impl Failure for IdentFault {
+    fn tell(self, out: &mut Answer) -> Result<(), AllocError> {
+        match self {
+            IdentFault::Bad { at } => out.counted(b"bad", at),
+            IdentFault::Memory => Err(AllocError),
+        }
     }
 }
 
@@ -21,46 +22,26 @@ fn put_ident(out: &mut Answer, ident: &Ident) -> Result<(), AllocError> {
 }
 
 /// TEXT: name, email, seconds and zone, and what is written of them.
-fn ident(alloc: Global, fields: &mut Fields<'_>, out: &mut Answer) -> Result<(), CaseFault> {
-    match parse_ident(alloc, fields.bytes()?) {
-        Ok(ident) => {
-            put_ident(out, &ident)?;
-            out.bytes(&ident_text(alloc, &ident)?)?;
-        }
-        Err(fault) => bad(out, fault)?,
-    }
+pub fn ident(case: &mut Case<'_>) -> Result<(), CaseFault> {
+    let parsed = parse_ident(case.alloc, case.fields.bytes()?);
+    let ident = value(parsed, &mut case.out)?;
+    put_ident(&mut case.out, &ident)?;
+    case.out.bytes(&ident_text(case.alloc, &ident)?)?;
     Ok(())
 }
 
 /// IDENT: its author's script.
-fn script_of(alloc: Global, fields: &mut Fields<'_>, out: &mut Answer) -> Result<(), CaseFault> {
-    match parse_ident(alloc, fields.bytes()?) {
-        Ok(ident) => out.bytes(&author_script(alloc, &ident)?)?,
-        Err(fault) => bad(out, fault)?,
-    }
+pub fn script_of(case: &mut Case<'_>) -> Result<(), CaseFault> {
+    let parsed = parse_ident(case.alloc, case.fields.bytes()?);
+    let ident = value(parsed, &mut case.out)?;
+    case.out.bytes(&author_script(case.alloc, &ident)?)?;
     Ok(())
 }
 
 /// SCRIPT: name, email, seconds and zone.
-fn script(alloc: Global, fields: &mut Fields<'_>, out: &mut Answer) -> Result<(), CaseFault> {
-    match parse_author_script(alloc, fields.bytes()?) {
-        Ok(ident) => put_ident(out, &ident)?,
-        Err(fault) => bad(out, fault)?,
-    }
+pub fn script(case: &mut Case<'_>) -> Result<(), CaseFault> {
+    let parsed = parse_author_script(case.alloc, case.fields.bytes()?);
+    let ident = value(parsed, &mut case.out)?;
+    put_ident(&mut case.out, &ident)?;
     Ok(())
-}
-
-pub fn answer(
-    alloc: Global,
-    verb: &[u8],
-    fields: &mut Fields<'_>,
-    out: &mut Answer,
-) -> Result<bool, CaseFault> {
-    match verb {
-        b"ident" => ident(alloc, fields, out)?,
-        b"author-script-of" => script_of(alloc, fields, out)?,
-        b"author-script" => script(alloc, fields, out)?,
-        _ => return Ok(false),
-    }
-    Ok(true)
 }

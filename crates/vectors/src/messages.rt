@@ -4,9 +4,7 @@ ghost use Rattle.std.specs.Prelude.{◌≡◌, true, false, IfOk, All};
 ghost use Rattle.message_text.specs.Chain.{IsChain};
 ghost use Rattle.message_text.specs.Kinds.{is_first};
 
-use crate::answer::Answer;
-use crate::fault::CaseFault;
-use crate::fields::Fields;
+use cases::{Case, CaseFault, Fields};
 use message_text::{
     ChainItem, ChainKind, chain_text, clean, kept_text, picked_text, revert_text, subject,
 };
@@ -14,14 +12,14 @@ use seq_base::Bytes;
 use std::alloc::Global;
 
 /// TEXT
-fn cleaned(alloc: Global, fields: &mut Fields<'_>, out: &mut Answer) -> Result<(), CaseFault> {
-    out.bytes(&clean(alloc, fields.bytes()?)?)?;
+pub fn cleaned(case: &mut Case<'_>) -> Result<(), CaseFault> {
+    case.out.bytes(&clean(case.alloc, case.fields.bytes()?)?)?;
     Ok(())
 }
 
 /// TEXT
-fn subject_of(alloc: Global, fields: &mut Fields<'_>, out: &mut Answer) -> Result<(), CaseFault> {
-    out.bytes(&subject(alloc, fields.bytes()?)?)?;
+pub fn subject_of(case: &mut Case<'_>) -> Result<(), CaseFault> {
+    case.out.bytes(&subject(case.alloc, case.fields.bytes()?)?)?;
     Ok(())
 }
 
@@ -54,7 +52,7 @@ fn later_items(alloc: Global, fields: &mut Fields<'_>) -> Result<Vec<ChainItem>,
     let mut items = Vec::new(alloc);
     for _ in 0..fields.len() / 2 {
         let kind = later_kind(fields.bytes()?)?;
-        let message = fields.owned(alloc)?;
+        let message = fields.owned()?;
         items.push(ChainItem { kind, message })?;
     }
     Ok(items)
@@ -64,56 +62,40 @@ fn later_items(alloc: Global, fields: &mut Fields<'_>) -> Result<Vec<ChainItem>,
 fn chain_of(alloc: Global, fields: &mut Fields<'_>) -> Result<Vec<ChainItem>, CaseFault>
     ensures { IfOk result (λ items. IsChain items.items) }
 {
-    let first = first_item(fields.owned(alloc)?);
+    let first = first_item(fields.owned()?);
     let mut items = later_items(alloc, fields)?;
     items.insert(0, first)?;
     Ok(items)
 }
 
 /// A chain.
-fn chain(alloc: Global, fields: &mut Fields<'_>, out: &mut Answer) -> Result<(), CaseFault> {
-    let items = chain_of(alloc, fields)?;
-    out.bytes(&chain_text(alloc, &items)?)?;
+pub fn chain(case: &mut Case<'_>) -> Result<(), CaseFault> {
+    let items = chain_of(case.alloc, &mut case.fields)?;
+    case.out.bytes(&chain_text(case.alloc, &items)?)?;
     Ok(())
 }
 
 /// A chain.
-fn kept(alloc: Global, fields: &mut Fields<'_>, out: &mut Answer) -> Result<(), CaseFault> {
-    let items = chain_of(alloc, fields)?;
-    out.bytes(&kept_text(alloc, &items)?)?;
+pub fn kept(case: &mut Case<'_>) -> Result<(), CaseFault> {
+    let items = chain_of(case.alloc, &mut case.fields)?;
+    case.out.bytes(&kept_text(case.alloc, &items)?)?;
     Ok(())
 }
 
 /// TEXT ID
-fn picked(alloc: Global, fields: &mut Fields<'_>, out: &mut Answer) -> Result<(), CaseFault> {
-    let text = fields.bytes()?;
-    out.bytes(&picked_text(alloc, text, fields.id()?)?)?;
+pub fn picked(case: &mut Case<'_>) -> Result<(), CaseFault> {
+    let text = case.fields.bytes()?;
+    case.out
+        .bytes(&picked_text(case.alloc, text, case.fields.id()?)?)?;
     Ok(())
 }
 
 /// SUBJECT ID PARENT-OR-NONE
-fn reverted(alloc: Global, fields: &mut Fields<'_>, out: &mut Answer) -> Result<(), CaseFault> {
-    let subject = fields.bytes()?;
-    let id = fields.id()?;
-    let parent = fields.id_or_none()?;
-    out.bytes(&revert_text(alloc, subject, id, parent)?)?;
+pub fn reverted(case: &mut Case<'_>) -> Result<(), CaseFault> {
+    let subject = case.fields.bytes()?;
+    let id = case.fields.id()?;
+    let parent = case.fields.id_or_none()?;
+    case.out
+        .bytes(&revert_text(case.alloc, subject, id, parent)?)?;
     Ok(())
-}
-
-pub fn answer(
-    alloc: Global,
-    verb: &[u8],
-    fields: &mut Fields<'_>,
-    out: &mut Answer,
-) -> Result<bool, CaseFault> {
-    match verb {
-        b"clean" => cleaned(alloc, fields, out)?,
-        b"subject" => subject_of(alloc, fields, out)?,
-        b"chain" => chain(alloc, fields, out)?,
-        b"kept" => kept(alloc, fields, out)?,
-        b"picked" => picked(alloc, fields, out)?,
-        b"reverted" => reverted(alloc, fields, out)?,
-        _ => return Ok(false),
-    }
-    Ok(true)
 }

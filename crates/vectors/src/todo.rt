@@ -1,9 +1,8 @@
 //! Cases of `todo_text`.
 
-use crate::answer::Answer;
-use crate::fault::CaseFault;
-use crate::fields::Fields;
-use std::alloc::{AllocError, Global};
+use crate::failure::{Failure, value};
+use cases::{Answer, Case, CaseFault};
+use std::alloc::AllocError;
 use todo_text::{Line, MergeHow, PickKind, TodoFault, TodoKind, line_text, parse_todo};
 
 fn kind_word(kind: TodoKind) -> &'static [u8] {
@@ -36,50 +35,38 @@ fn pick_word(kind: PickKind) -> &'static [u8] {
     }
 }
 
-fn bad(out: &mut Answer, fault: TodoFault) -> Result<(), AllocError> {
-    match fault {
-        TodoFault::Bad { line, kind } => {
-            out.counted(b"bad-line", line)?;
-            out.word(kind_word(kind))
+impl Failure for TodoFault {
+    fn tell(self, out: &mut Answer) -> Result<(), AllocError> {
+        match self {
+            TodoFault::Bad { line, kind } => {
+                out.counted(b"bad-line", line)?;
+                out.word(kind_word(kind))
+            }
+            TodoFault::Memory => Err(AllocError),
         }
-        TodoFault::Memory => Err(AllocError),
     }
 }
 
 fn put_how(out: &mut Answer, how: &MergeHow) -> Result<(), AllocError> {
     match how {
         MergeHow::Plain => out.word(b"plain"),
-        MergeHow::Keep { rev } => {
-            out.word(b"keep")?;
-            out.bytes(rev.as_slice())
-        }
-        MergeHow::Reword { rev } => {
-            out.word(b"reword")?;
-            out.bytes(rev.as_slice())
-        }
+        MergeHow::Keep { rev } => out.named(b"keep", rev.as_slice()),
+        MergeHow::Reword { rev } => out.named(b"reword", rev.as_slice()),
     }
 }
 
 fn put_line(out: &mut Answer, line: &Line) -> Result<(), AllocError> {
     match line {
         Line::Pick { kind, rev, note } => {
-            out.word(pick_word(*kind))?;
-            out.bytes(rev.as_slice())?;
+            out.named(pick_word(*kind), rev.as_slice())?;
             out.bytes(note.as_slice())
         }
-        Line::Exec { command } => {
-            out.word(b"exec")?;
-            out.bytes(command.as_slice())
-        }
+        Line::Exec { command } => out.named(b"exec", command.as_slice()),
         Line::Break => out.word(b"break"),
         Line::Noop => out.word(b"noop"),
-        Line::Label { name } => {
-            out.word(b"label")?;
-            out.bytes(name.as_slice())
-        }
+        Line::Label { name } => out.named(b"label", name.as_slice()),
         Line::Reset { name, note } => {
-            out.word(b"reset")?;
-            out.bytes(name.as_slice())?;
+            out.named(b"reset", name.as_slice())?;
             out.bytes(note.as_slice())
         }
         Line::Merge { how, head, note } => {
@@ -88,70 +75,44 @@ fn put_line(out: &mut Answer, line: &Line) -> Result<(), AllocError> {
             out.bytes(head.as_slice())?;
             out.bytes(note.as_slice())
         }
-        Line::UpdateRef { name } => {
-            out.word(b"update-ref")?;
-            out.bytes(name.as_slice())
-        }
+        Line::UpdateRef { name } => out.named(b"update-ref", name.as_slice()),
     }
 }
 
 /// EARLIER TEXT: the lines. EARLIER is `yes` where a line was done before.
-fn lines(alloc: Global, fields: &mut Fields<'_>, out: &mut Answer) -> Result<(), CaseFault> {
-    let earlier = fields.yes_or_no()?;
-    match parse_todo(alloc, fields.bytes()?, earlier) {
-        Ok(lines) => {
-            out.counted(b"lines", lines.len() as u64)?;
-            for line in lines.iter() {
-                put_line(out, line)?;
-            }
-        }
-        Err(fault) => bad(out, fault)?,
+pub fn lines(case: &mut Case<'_>) -> Result<(), CaseFault> {
+    let earlier = case.fields.yes_or_no()?;
+    let parsed = parse_todo(case.alloc, case.fields.bytes()?, earlier);
+    let lines = value(parsed, &mut case.out)?;
+    case.out.counted(b"lines", lines.len() as u64)?;
+    for line in lines.iter() {
+        put_line(&mut case.out, line)?;
     }
     Ok(())
 }
 
 /// EARLIER TEXT: the canonical text of each line.
-fn again(alloc: Global, fields: &mut Fields<'_>, out: &mut Answer) -> Result<(), CaseFault> {
-    let earlier = fields.yes_or_no()?;
-    match parse_todo(alloc, fields.bytes()?, earlier) {
-        Ok(lines) => {
-            out.counted(b"lines", lines.len() as u64)?;
-            for line in lines.iter() {
-                out.bytes(&line_text(alloc, line)?)?;
-            }
-        }
-        Err(fault) => bad(out, fault)?,
+pub fn again(case: &mut Case<'_>) -> Result<(), CaseFault> {
+    let earlier = case.fields.yes_or_no()?;
+    let parsed = parse_todo(case.alloc, case.fields.bytes()?, earlier);
+    let lines = value(parsed, &mut case.out)?;
+    case.out.counted(b"lines", lines.len() as u64)?;
+    for line in lines.iter() {
+        case.out.bytes(&line_text(case.alloc, line)?)?;
     }
     Ok(())
 }
 
 /// COUNT TEXT: the number of lines where the text stands so many times. A large count shows a step that goes over the whole text
 /// for each line.
-fn many(alloc: Global, fields: &mut Fields<'_>, out: &mut Answer) -> Result<(), CaseFault> {
-    let count = fields.number()?;
-    let text = fields.bytes()?;
-    let mut whole = Vec::new(alloc);
+pub fn many(case: &mut Case<'_>) -> Result<(), CaseFault> {
+    let count = case.fields.number()?;
+    let text = case.fields.bytes()?;
+    let mut whole = Vec::new(case.alloc);
     for _ in 0..count {
         whole.extend_from_slice(text)?;
     }
-    match parse_todo(alloc, &whole, true) {
-        Ok(lines) => out.counted(b"lines", lines.len() as u64)?,
-        Err(fault) => bad(out, fault)?,
-    }
+    let lines = value(parse_todo(case.alloc, &whole, true), &mut case.out)?;
+    case.out.counted(b"lines", lines.len() as u64)?;
     Ok(())
-}
-
-pub fn answer(
-    alloc: Global,
-    verb: &[u8],
-    fields: &mut Fields<'_>,
-    out: &mut Answer,
-) -> Result<bool, CaseFault> {
-    match verb {
-        b"todo" => lines(alloc, fields, out)?,
-        b"todo-again" => again(alloc, fields, out)?,
-        b"todo-many" => many(alloc, fields, out)?,
-        _ => return Ok(false),
-    }
-    Ok(true)
 }

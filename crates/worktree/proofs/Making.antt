@@ -4,7 +4,7 @@ use Rattle.std.specs.FinMap as map
 use Rattle.std.proofs.lemmas.Bool.{or_parts}
 use Rattle.seq_base.specs.Words.{Path}
 use Rattle.seq_base.specs.World.{World}
-use Rattle.seq_outside.specs.Halts.{Denies}
+use Rattle.seq_outside.specs.Turns.{Turns}
 use Rattle.seq_outside.specs.declared.halt.Halt.{Halt}
 use Rattle.seq_outside.specs.declared.halt.Halt.TheVariants.{Stops, Fault, Memory}
 use Rattle.seq_outside.specs.declared.lack.Lack.{Lack}
@@ -17,11 +17,11 @@ pub record LeftOver (start now : World) (all rest : List Write) : Type 0 where
   pub means : writes_made all start ≡ writes_made rest now
   pub elsewhere : (path : Path) → is_written all path ≡ false → (map.get now path ≡ map.get start path) × (is_written rest path ≡ false)
 
-one_made : (now next : World) (write : Write) (rest : List Write) → write_made write now ≡ Ok (tt, next) → writes_made (write ∷ rest) now ≡ writes_made rest next
+one_made : (now next : World) (write : Write) (rest : List Write) → write_made write now ≡ (Ok tt, next) → writes_made (write ∷ rest) now ≡ writes_made rest next
 unfolding writes_made
 one_made now next write rest made = rw made refl
 
-pub one_left : (start now next : World) (all rest : List Write) (write : Write) → LeftOver start now all (write ∷ rest) → write_made write now ≡ Ok (tt, next)
+pub one_left : (start now next : World) (all rest : List Write) (write : Write) → LeftOver start now all (write ∷ rest) → write_made write now ≡ (Ok tt, next)
     → ((path : Path) → is_at path write ≡ false → map.get next path ≡ map.get now path) → LeftOver start next all rest
 one_left start now next all rest write left made other = record {
   means = left.means ∙ one_made now next write rest made;
@@ -32,21 +32,15 @@ one_left start now next all rest write left made other = record {
 }
 
 -- where one stops all do
-stopped : (now : World) (write : Write) (rest : List Write) (why : Lack) → write_made write now ≡ Err why → writes_made (write ∷ rest) now ≡ Err why
+stopped : (now next : World) (write : Write) (rest : List Write) (why : Lack) → write_made write now ≡ (Err why, next) → writes_made (write ∷ rest) now ≡ (Err why, next)
 unfolding writes_made
-stopped now write rest why is = rw is refl
+stopped now next write rest why is = rw is refl
 
-pub one_denied : (start now : World) (all rest : List Write) (write : Write) (halt : Halt Lack) → LeftOver start now all (write ∷ rest) → Denies halt (write_made write now) → Denies halt (writes_made all start)
-one_denied start now all rest write (Stops why) left denied = left.means ∙ stopped now write rest why denied
-one_denied start now all rest write Fault left denied = tt
-one_denied start now all rest write Memory left denied = tt
+pub one_stopped : (start now next : World) (all rest : List Write) (write : Write) (halt : Halt Lack) → LeftOver start now all (write ∷ rest) → Turns {X = Unit {0}} {Y = Unit {0}} (λ x. x) (Err halt) (write_made write now) next → Turns {X = Unit {0}} {Y = Unit {0}} (λ x. x) (Err halt) (writes_made all start) next
+one_stopped start now next all rest write (Stops why) left is = left.means ∙ stopped now next write rest why is
+one_stopped start now next all rest write Fault left is = tt
+one_stopped start now next all rest write Memory left is = tt
 
-pub none_left : (start now : World) (all : List Write) → LeftOver start now all [] → writes_made all start ≡ Ok (tt, now)
+pub none_left : (start now : World) (all : List Write) → LeftOver start now all [] → writes_made all start ≡ (Ok tt, now)
 unfolding writes_made
 none_left start now all left = left.means
-
-pub elsewhere_denied : (start now next : World) (all rest : List Write) (write : Write) → LeftOver start now all (write ∷ rest)
-    → ((path : Path) → is_at path write ≡ false → map.get next path ≡ map.get now path) → (path : Path) → is_written all path ≡ false → map.get next path ≡ map.get start path
-elsewhere_denied start now next all rest write left other path none =
-    let here = left.elsewhere path none in
-    other path (or_parts (is_at path write) (is_written rest path) here.1).0 ∙ here.0

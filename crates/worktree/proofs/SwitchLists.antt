@@ -1,16 +1,16 @@
 -- The writes of a switch, as far as they were gathered.
-use Rattle.std.proofs.Common.{◌≡◌, ℕ, ◌-◌, ◌<◌, Bool, true, false, cond, List, [], ◌∷◌, ◌++◌, append_assoc, length, take, drop, get_or, Result, Ok, Err, refl, sym, ap, subst, ◌∙◌, arith}
+use Rattle.std.proofs.Common.{◌≡◌, ℕ, ◌-◌, ◌<◌, List, [], ◌∷◌, ◌++◌, append_assoc, length, take, drop, get_or, Result, Ok, Err, refl, sym, ap, subst, ◌∙◌, arith}
 use Rattle.std.specs.Prelude.{codes, filter, map}
 use Rattle.std.proofs.lemmas.List.Elements.{filter-append}
 use Rattle.seq_base.specs.World.{World}
 use Rattle.seq_outside.specs.declared.write.Write.{Write}
-use Rattle.seq_outside.specs.declared.write.Write.TheVariants.{Put, Remove}
+use Rattle.seq_outside.specs.declared.write.Write.TheVariants.{Put}
 use Rattle.seq_outside.proofs.Firsts.{first_and_others}
 use Rattle.index_file.specs.declared.entry.IndexEntry.{IndexEntry}
 use Rattle.index_file.specs.Index.{indexed}
 use Rattle.index_file.specs.Spelling.{index_text}
 use Rattle.stage_index.specs.Stages.{Entries, map_of, row_of}
-use Rattle.stage_index.specs.Switching.{index_write, is_dropped, is_rewritten, removals}
+use Rattle.stage_index.specs.Switching.{index_write, is_rewritten, removals}
 use Rattle.stage_index.proofs.Indexing.{rows_of-indexed}
 use Rattle.seq_outside.specs.Halts.{◌>>=◌, Denies}
 use Rattle.seq_outside.specs.declared.halt.Halt.{Halt}
@@ -19,26 +19,7 @@ use Rattle.seq_outside.specs.declared.lack.Lack.{Lack}
 use Rattle.worktree.specs.Blobs.{blob_named}
 use Rattle.worktree.specs.Writes.{blob_writes, clear_writes}
 
--- ---- removals
-
-removals_split : (x : IndexEntry) (xs : List IndexEntry) (to : Entries) → removals (x ∷ xs) to ≡ removals (x ∷ []) to ++ removals xs to
-removals_split x xs to = at (is_dropped to x)
-  where
-    others : List IndexEntry
-    others = filter (is_dropped to) xs
-
-    at : (t : Bool) → map (λ e. Remove e.path) (cond t (x ∷ others) others) ≡ map (λ e. Remove e.path) (cond t (x ∷ []) []) ++ map (λ e. Remove e.path) others
-    at true = refl
-    at false = refl
-
-pub removals_more : (rest : List IndexEntry) (x : IndexEntry) (to : Entries) (all now new : List Write) → 0 < length rest → x ≡ get_or rest 0 x → new ≡ now ++ removals (x ∷ []) to → now ++ removals rest to ≡ all
-    → new ++ removals (take (length rest - 1) (drop 1 rest)) to ≡ all
-removals_more rest x to all now new some first made so_far =
-    let others = take (length rest - 1) (drop 1 rest) in
-    ap (λ (ws : List Write). ws ++ removals others to) made
-    ∙ append_assoc now (removals (x ∷ []) to) (removals others to)
-    ∙ ap (λ (ws : List Write). now ++ ws) (sym (removals_split x others to) ∙ ap (λ (es : List IndexEntry). removals es to) (sym (first_and_others rest x some first)))
-    ∙ so_far
+-- ---- empty lists
 
 no_entries : (rest : List IndexEntry) → length rest ≡ 0 → rest ≡ []
 no_entries [] h = refl
@@ -47,9 +28,6 @@ no_entries (e ∷ es) h = absurd (omega arith)
 nothing_more : (ws : List Write) → ws ++ [] ≡ ws
 nothing_more [] = refl
 nothing_more (w ∷ ws) = ap (λ (vs : List Write). w ∷ vs) (nothing_more ws)
-
-pub removals_end : (rest : List IndexEntry) (to : Entries) (all now : List Write) → length rest ≡ 0 → now ++ removals rest to ≡ all → now ≡ all
-removals_end rest to all now none so_far = sym (nothing_more now) ∙ ap (λ (es : List IndexEntry). now ++ removals es to) (sym (no_entries rest none)) ∙ so_far
 
 -- ---- blobs
 
@@ -65,9 +43,6 @@ pub record BlobsSoFar (w : World) (from all rest : List IndexEntry) (old now : L
 same_writes : (r : Result (List Write) Lack) → r ≡ (r >>= λ more. Ok ([] ++ more))
 same_writes (Ok ws) = refl
 same_writes (Err e) = refl
-
-pub blobs_begin : (w : World) (from all : List IndexEntry) (old : List Write) → BlobsSoFar w from all all old old
-blobs_begin w from all old = record { made = []; now_is = sym (nothing_more old); means = same_writes (blob_writes w (chosen from all)) }
 
 -- one after the other
 both_writes : (w : World) (xs ys : Entries) → blob_writes w (xs ++ ys) ≡ (blob_writes w xs >>= λ first. (blob_writes w ys >>= λ more. Ok (first ++ more)))

@@ -19,10 +19,14 @@ blob_writes w (e ∷ es) = do
   others ← blob_writes w es
   Ok (Put e.0 bytes ∷ others)
 
+-- of these paths, those that are written, with their blobs
+abbrev pub rewritten : World → List IndexEntry → Entries → Result (List Write) Lack
+rewritten w from to = blob_writes w (filter (is_rewritten from) to)
+
 -- what switches them where no file is in the way: the removals, then the index, then the files, in path order
 unfoldable pub clear_writes : World → List IndexEntry → Entries → Result (List Write) Lack
 clear_writes w from to = do
-  blobs ← blob_writes w (filter (is_rewritten from) to)
+  blobs ← rewritten w from to
   Ok (removals from to ++ index_write to ∷ blobs)
 
 -- the writes that the definition gives, behind others

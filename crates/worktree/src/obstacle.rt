@@ -8,10 +8,11 @@ ghost use Rattle.seq_base.specs.Paths.{IsPath};
 ghost use Rattle.seq_base.specs.StorePaths.{IsStorePath};
 ghost use Rattle.seq_base.specs.World.{is_below};
 ghost use Rattle.stage_index.specs.Stages.{row_of};
-ghost use Rattle.stage_index.specs.Switching.{first_obstructed as first_obstructed_in, is_in_way, is_obstructed as is_obstructed_in, is_untracked as is_untracked_in};
+ghost use Rattle.stage_index.specs.Switching.{first_obstructed as first_obstructed_in, is_obstructed as is_obstructed_in};
+ghost use Rattle.stage_index.specs.Switching.{is_in_way, is_untracked as is_untracked_in};
 ghost use Rattle.std.specs.Prelude.{map as map_list};
 ghost use Rattle.seq_outside.specs.Seen.{Reads, store_cause};
-ghost use Rattle.worktree.specs.Folders.{is_file_before};
+ghost use Rattle.worktree.specs.Folders.{has_untracked_at, is_file_before};
 
 use crate::rewritten::{is_rewritten, is_tracked, is_untracked};
 use index_file::IndexEntry;
@@ -66,7 +67,7 @@ fn stands_above<S: Store>(
 ) -> Result<bool, StoreError>
     requires order { IsInOrder from.now }
     requires path { IsStorePath path.now }
-    ensures told { S.told → IfOk result (λ is. is ≡ list_any (λ file. is_untracked_in from.now file && is_below file path.now) (map.keys (S.seen store.old).content)) }
+    ensures told { S.told → IfOk result (λ is. is ≡ has_untracked_at (S.seen store.old).content from.now (λ file. is_below file path.now)) }
     ensures reads { Reads S.told store_cause result (S.seen store.old) (S.seen store.new) }
 {
     let mut n = 0;
@@ -101,7 +102,7 @@ fn stands_below<S: Store>(
     requires order { IsInOrder from.now }
     requires path { IsPath path.now }
     requires store_path { IsStorePath path.now }
-    ensures told { S.told → IfOk result (λ is. is ≡ list_any (λ file. is_untracked_in from.now file && is_below path.now file) (map.keys (S.seen store.old).content)) }
+    ensures told { S.told → IfOk result (λ is. is ≡ has_untracked_at (S.seen store.old).content from.now (is_below path.now)) }
     ensures reads { Reads S.told store_cause result (S.seen store.old) (S.seen store.new) }
 {
     let files = store.list(alloc, path)?;
@@ -116,7 +117,7 @@ fn has_obstacle<S: Store>(
     path: &Path,
 ) -> Result<bool, StoreError>
     requires { IsInOrder from.now }
-    ensures told { S.told → IfOk result (λ is. is ≡ list_any (λ file. is_untracked_in from.now file && is_in_way path.now file) (map.keys (S.seen store.old).content)) }
+    ensures told { S.told → IfOk result (λ is. is ≡ has_untracked_at (S.seen store.old).content from.now (is_in_way path.now)) }
     ensures reads { Reads S.told store_cause result (S.seen store.old) (S.seen store.new) }
 {
     let path = path.bytes();

@@ -5,7 +5,9 @@ ghost use Rattle.index_file.specs.Entries.{IsInOrder};
 ghost use Rattle.seq_base.specs.PathMaps.{same_entry};
 ghost use Rattle.stage_index.specs.Changes.{is_gitlink as is_gitlink_mode};
 ghost use Rattle.stage_index.specs.Stages.{merged_entry, row_of};
-ghost use Rattle.stage_index.specs.Switching.{is_kept as is_kept_in, is_rewritten as is_rewritten_in, is_submodule as is_submodule_entry, is_tracked as is_tracked_in, is_untracked as is_untracked_in, tracks_file as tracks_file_in};
+ghost use Rattle.stage_index.specs.Switching.{is_kept as is_kept_in, is_rewritten as is_rewritten_in};
+ghost use Rattle.stage_index.specs.Switching.{is_submodule as is_submodule_entry, tracks_file as tracks_file_in};
+ghost use Rattle.stage_index.specs.Switching.{is_tracked as is_tracked_in, is_untracked as is_untracked_in};
 
 use index_file::IndexEntry;
 use seq_base::{Mode, lies_below};

@@ -1,14 +1,12 @@
 //! Index and files, switched to another map.
 
-ghost use Rattle.std.specs.FinMap as map;
 ghost use Rattle.std.specs.Prelude.{◌≡◌, ◌<◌, ◌^◌, IfOk, length};
 ghost use Rattle.index_file.specs.Entries.{IsInOrder};
-ghost use Rattle.seq_base.specs.Words.{Path as PathWord};
 ghost use Rattle.seq_outside.specs.Halts.{Gives, halt_cause};
 ghost use Rattle.seq_outside.specs.Seen.{Reads, Writes, store_cause};
 ghost use Rattle.seq_outside.specs.Turns.{Turns};
 ghost use Rattle.stage_index.specs.Switching.{first_obstructed as first_obstructed_in};
-ghost use Rattle.worktree.specs.Own.{IsOwn};
+ghost use Rattle.worktree.specs.Own.{OthersStay};
 ghost use Rattle.worktree.specs.Switches.{switched, switched_clear, unobstructed};
 
 use crate::make::make_writes;
@@ -72,7 +70,7 @@ pub fn switch_clear<S: Store>(
     requires order { IsInOrder from.now }
     requires few { length to.now < 2 ^ 32 }
     ensures turns { S.told → Turns (λ x. x) result (switched_clear from.now to.now (S.seen store.old).content) (S.seen store.new).content }
-    ensures elsewhere { S.told → (path : PathWord) → (IsOwn path → ⊥) → map.get (S.seen store.new).content path ≡ map.get (S.seen store.old).content path }
+    ensures elsewhere { S.told → OthersStay (S.seen store.old).content (S.seen store.new).content }
     ensures writes { Writes S.told halt_cause result (S.seen store.old) (S.seen store.new) }
 {
     let writes = clear_writes(alloc, store, from, to)?;
@@ -91,7 +89,7 @@ pub fn switch<S: Store>(
     requires order { IsInOrder from.now }
     requires few { length to.now < 2 ^ 32 }
     ensures turns { S.told → Turns (λ x. x) result (switched from.now to.now (S.seen store.old).content) (S.seen store.new).content }
-    ensures elsewhere { S.told → (path : PathWord) → (IsOwn path → ⊥) → map.get (S.seen store.new).content path ≡ map.get (S.seen store.old).content path }
+    ensures elsewhere { S.told → OthersStay (S.seen store.old).content (S.seen store.new).content }
     ensures writes { Writes S.told halt_cause result (S.seen store.old) (S.seen store.new) }
 {
     stop_obstructed(alloc, store, from, to)?;

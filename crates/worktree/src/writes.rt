@@ -1,7 +1,7 @@
 //! The writes of a switch.
 
 ghost use Rattle.std.specs.List.{AllByRecursion};
-ghost use Rattle.std.specs.Prelude.{◌≡◌, ◌<◌, ◌^◌, ◌++◌, ◌∷◌, [], IfOk, OnOk, codes, filter, is_none, length, map};
+ghost use Rattle.std.specs.Prelude.{◌≡◌, ◌<◌, ◌^◌, ◌++◌, ◌∷◌, [], IfOk, OnOk, codes, is_none, length, map};
 ghost use Rattle.index_file.specs.Entries.{IsInOrder, IsIndex};
 ghost use Rattle.index_file.specs.Spelling.{index_text as text_of_index};
 ghost use Rattle.seq_base.specs.PathMaps.{entry_at};
@@ -10,9 +10,9 @@ ghost use Rattle.seq_outside.specs.Halts.{Gives, halt_cause};
 ghost use Rattle.seq_outside.specs.Seen.{Reads};
 ghost use Rattle.seq_outside.specs.Writes.{HasStorePath};
 ghost use Rattle.stage_index.specs.Stages.{map_of, row_of};
-ghost use Rattle.stage_index.specs.Switching.{is_dropped as is_dropped_from, is_rewritten as is_rewritten_in, removals};
+ghost use Rattle.stage_index.specs.Switching.{is_dropped as is_dropped_from, removals};
 ghost use Rattle.worktree.specs.Own.{AreOwn};
-ghost use Rattle.worktree.specs.Writes.{Appends, blob_writes, clear_writes as clear_writes_of};
+ghost use Rattle.worktree.specs.Writes.{Appends, clear_writes as clear_writes_of, rewritten};
 
 use crate::blob::read_blob;
 use crate::rewritten::{is_gitlink, is_rewritten};
@@ -105,7 +105,7 @@ fn push_blob<S: Store>(
     writes: &mut Vec<Write>,
 ) -> Result<(), Halt<Lack>>
     requires { IsInOrder from.now }
-    ensures appends { S.told → Appends result writes.old.items writes.new.items (blob_writes (S.seen store.old).content (filter (is_rewritten_in from.now) (row_of entry.now ∷ []))) }
+    ensures appends { S.told → Appends result writes.old.items writes.new.items (rewritten (S.seen store.old).content from.now (row_of entry.now ∷ [])) }
     ensures own { OnOk result (AreOwn writes.old.items → AreOwn writes.new.items) }
     ensures reads { Reads S.told halt_cause result (S.seen store.old) (S.seen store.new) }
 {
@@ -127,7 +127,7 @@ fn push_blobs<S: Store>(
     writes: &mut Vec<Write>,
 ) -> Result<(), Halt<Lack>>
     requires { IsInOrder from.now }
-    ensures appends { S.told → Appends result writes.old.items writes.new.items (blob_writes (S.seen store.old).content (filter (is_rewritten_in from.now) (map row_of to.now))) }
+    ensures appends { S.told → Appends result writes.old.items writes.new.items (rewritten (S.seen store.old).content from.now (map row_of to.now)) }
     ensures own { OnOk result (AreOwn writes.old.items → AreOwn writes.new.items) }
     ensures reads { Reads S.told halt_cause result (S.seen store.old) (S.seen store.new) }
 {

@@ -1,4 +1,4 @@
-use Rattle.std.proofs.Common.{◌≡◌, ◌-◌, ◌<◌, ◌≤◌, reverse, vec_len}
+use Rattle.std.proofs.Common.{◌≡◌, ◌-◌, ◌<◌, reverse, vec_len}
 use Rattle.seq_outside.specs.Seen.{HasReadCause}
 use Rattle.seq_outside.specs.Seen.Cause.{ByNone}
 use Rattle.object_text.specs.TreeMaps.{map_below}

@@ -1,24 +1,6 @@
-use Rattle.std.proofs.Common.{ℕ, arith, subst, sym}
-use Rattle.grammar.specs.Gives.{Fails}
-use Rattle.grammar.specs.Lines.{IsFirstBadLine}
-use Rattle.grammar.specs.declared.fault.ReadError.{ReadError}
-use Rattle.grammar.proofs.Top.{left_within, read_whole}
-use Rattle.ref_text.specs.Logs.{IsLog}
-use Rattle.ref_text.specs.ReadLogs.{log_from}
-use Rattle.ref_text.proofs.LogLaws.{log_reads}
-use Rattle.ref_text.proofs.LogLoops.{bad_line}
+use Rattle.std.proofs.Common.{arith}
+use Rattle.ref_text.proofs.LineLaws.{log_read}
 use Rattle.ref_text.proofs.read_log.parse_log.Goals as goal
 
-pub overflow_sub-text : goal.overflow_sub-text
-overflow_sub-text c =
-    left_within IsLog log_from log_reads c.args.text.now c.in-Err-Stopped.left
-    (subst (λ (d : ReadError). Fails d (log_from c.args.text.now)) c.in-Err-Stopped.field-0-is c.in-Err-Stopped.ensures)
-
-pub returns-in-Ok : goal.returns-in-Ok
-returns-in-Ok c = read_whole IsLog log_from log_reads c.args.text.now c.in-Ok.lines.items c.in-Ok.ensures
-
-pub returns-in-Err-Stopped : goal.returns-in-Err-Stopped
-returns-in-Err-Stopped c =
-    subst (λ (n : ℕ). IsFirstBadLine IsLog c.args.text.now n) (sym c.line_of_place.ensures)
-    (bad_line c.args.text.now c.in-Err-Stopped.left (λ k. omega (arith, c.type_inv.text k))
-    (subst (λ (d : ReadError). Fails d (log_from c.args.text.now)) c.in-Err-Stopped.field-0-is c.in-Err-Stopped.ensures))
+pub returns-clause-read : goal.returns-clause-read
+returns-clause-read c = log_read (λ v. v.items) c.args.text.now (λ k. omega (arith, c.type_inv.text k)) c.log_in.result c.log_in.ensures

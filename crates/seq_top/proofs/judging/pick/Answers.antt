@@ -2,14 +2,5 @@ use Rattle.std.proofs.Common.{rules}
 use Rattle.seq_pick.proofs.Repositories.{keeps_repository}
 use Rattle.seq_top.proofs.judging.pick.Goals as goal
 
-pub returns-clause-picks : goal.returns-clause-picks
-returns-clause-picks g c = record {
-  first = c.now-first.result;
-  between = c.now-first.new.self;
-  ticks = c.now-first.ensures;
-  kind = c.pick_in.ensures.kind;
-  judged = search rules;
-}
-
 pub returns-clause-keeps : goal.returns-clause-keeps
 returns-clause-keeps g c told = keeps_repository _ _ (search rules) (g.met.S.Store.shaped _ told)

@@ -3,7 +3,7 @@ use Rattle.std.proofs.Common.{inl, inr, ap, refl, w64}
 use Rattle.seq_outside.specs.Halts.{halt_cause}
 use Rattle.seq_outside.specs.Writes.{written}
 use Rattle.seq_pick.specs.Preparing.{prepared_is}
-use Rattle.seq_top.proofs.Judged.{at_moment, at_none, at_secs, denied_there, judged_cause, of_pick, prepared_there, stays_by}
+use Rattle.seq_top.proofs.Judged.{at_moment, at_none, at_secs, denied_there, is_denied, judged_cause, of_pick, prepared_there, stays_by}
 use Rattle.seq_top.proofs.judging.pick_in.Goals as goal
 
 pub returns-in-Ok-clause-judged : goal.returns-in-Ok-clause-judged
@@ -21,6 +21,6 @@ returns-in-Ok-clause-cause g c =
 
 pub returns-in-Err-clause-judged : goal.returns-in-Err-clause-judged
 returns-in-Err-clause-judged g c =
-    rw c.outcome-in-Err.ensures (inr (at_none g.S.Store.told g.C.Clock.ticked c.args.env.now c.args.word.now (g.S.Store.seen c.args.draft.now.store.now).content _ _ _ c.in-Err.halt refl
-    (λ told. denied_there c.args.env.now.vars c.as_slice.result.now c.args.word.now _ _ c.as_slice.ensures (ap (written _) c.requires.none) c.in-Err.halt (c.in-Err.ensures.turns told))
+    rw c.outcome-in-Err.ensures (inr (at_none g.S.Store.told g.C.Clock.ticked c.args.env.now c.args.word.now (g.S.Store.seen c.args.draft.now.store.now).content _ _ _ c.in-Err.halt (written (g.S.Store.seen c.prepare.new.store.store.now).content c.prepare.new.store.changes.now) refl
+    (λ told. denied_there c.args.env.now.vars c.as_slice.result.now c.args.word.now _ _ c.as_slice.ensures (ap (written _) c.requires.none) c.in-Err.halt _ (is_denied prepared_is c.in-Err.halt _ _ (c.in-Err.ensures.turns told)))
     (λ told. (stays_by g.S.Store.told (halt_cause c.in-Err.halt) _ _ c.in-Err.ensures.writes).3 told)))

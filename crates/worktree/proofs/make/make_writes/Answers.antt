@@ -4,7 +4,7 @@ use Rattle.std.specs.Vec.Iter.{into_iter_items}
 use Rattle.std.proofs.lemmas.Result.{err_from_is_err_and}
 use Rattle.seq_outside.specs.declared.write.Write.{Write}
 use Rattle.seq_outside.specs.Writes.{HasStorePath}
-use Rattle.worktree.proofs.Making.{LeftOver, none_left, one_denied, one_left}
+use Rattle.worktree.proofs.Making.{LeftOver, none_left, one_left, one_stopped}
 use Rattle.worktree.proofs.make.make_writes.Goals as goal
 
 pub loop-write-preserved : goal.loop-write-preserved
@@ -28,7 +28,7 @@ returns-in_err-make_write-clause-turns g c told =
     let at = c.loop-write in
     let steps : into_iter_items at.write-iterator ≡ c.in-Some.write ∷ into_iter_items c.next.new.self = c.in-Some.ensures.steps.0 in
     let p = err_from_is_err_and c.from_residual.result c.from_residual.ensures.1 in
-    rw (p.1, p.2) (one_denied _ _ _ _ c.in-Some.write c.in_err-make_write.field-0.0 (subst (LeftOver _ _ _) steps (at.invariant.left told)) (c.in_err-make_write.ensures.turns told))
+    rw (p.1, p.2) (one_stopped _ _ _ _ _ c.in-Some.write c.in_err-make_write.field-0.0 (subst (LeftOver _ _ _) steps (at.invariant.left told)) (c.in_err-make_write.ensures.turns told))
 
 nothing_left : (ws : List Write) → length ws ≡ 0 → ws ≡ []
 nothing_left [] h = refl

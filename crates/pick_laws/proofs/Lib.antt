@@ -1,0 +1,13 @@
+pub mod Turning
+pub mod Putting
+pub mod Committing
+pub mod Placing
+pub mod Blobs
+pub mod Switching
+pub mod Staying
+pub mod Cleaning
+pub mod Files
+pub mod BlobIds
+pub mod Unstaged
+pub mod Standing
+pub mod Picking
