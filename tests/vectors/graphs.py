@@ -23,6 +23,7 @@ def add_git(cases):
         letters = "abcdefghijklmn"[: pick.randint(3, 14)]
         graph = [(letter, "".join(pick.sample(letters[:at], min(at, pick.choice([0, 1, 1, 1, 2, 2, 3]))))) for at, letter in enumerate(letters)]
         graphs.append((graph, ["".join(pick.choices(letters, k=2)) for _ in range(8)]))
+    walks = []
     for number, (graph, asked) in enumerate(graphs):
         names = {}
         fields = [len(graph)]
@@ -33,6 +34,14 @@ def add_git(cases):
             found = repository.try_git("merge-base", "--all", names[a], names[b])[1].decode().split()
             ways = [repository.try_git("merge-base", "--is-ancestor", names[x], names[y])[0] == 0 for x, y in (a + b, b + a)]
             cases.add("merge-bases", [*fields, names[a], names[b]], ["bases", *sorted(found), *ways])
+        walks += [(fields, names, tips) for tips in [*asked, "", asked[0] + asked[1]]]
+    cases.group("Tips, and whether each commit of the graph is one or an ancestor of one: `git rev-list`. The last id is in no graph, and a tip where there is no other.")
+    for fields, names, letters in walks:
+        tips = [names[letter] for letter in letters]
+        found = set(repository.git("rev-list", *tips).decode().split()) if tips else set()
+        tips = tips or [number_id(1)]
+        asked = [*names.values(), number_id(1)]
+        cases.add("reached", [*fields, len(tips), *tips, *asked], [id in found for id in asked])
 
 
 def add_rules(cases):

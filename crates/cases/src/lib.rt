@@ -5,6 +5,7 @@ mod answer;
 mod case;
 mod fault;
 mod fields;
+mod lines;
 mod maps;
 mod words;
 
@@ -12,4 +13,5 @@ pub use answer::Answer;
 pub use case::{Case, Verbs, answer_line};
 pub use fault::CaseFault;
 pub use fields::Fields;
+pub use lines::put_line;
 pub use maps::{map_of, put_map};

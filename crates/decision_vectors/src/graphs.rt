@@ -1,28 +1,35 @@
 //! Cases of `merge_base`.
 
 use cases::{Answer, Case, CaseFault};
-use merge_base::{Graph, GraphFault, Ids, Node, bases, is_ancestor};
+use merge_base::{Graph, GraphFault, Ids, Node, ancestors, bases, is_ancestor};
 use seq_base::{Bytes, Id};
 use std::alloc::{AllocError, Global};
 
-fn node(alloc: Global, id: Id, parents: Vec<Id>) -> Node {
+fn node(id: Id, parents: Vec<Id>, subject: Bytes) -> Node {
     Node {
         id,
         parents: Ids::from_vec(parents),
         tree: Id::from_bytes([0; 20]),
-        subject: Bytes::from_vec(Vec::new(alloc)),
+        subject,
     }
 }
 
-/// An id, the number of its parents, and the parents.
-fn read_node(case: &mut Case<'_>) -> Result<Node, CaseFault> {
+fn bare_node(alloc: Global, id: Id, parents: Vec<Id>) -> Node {
+    node(id, parents, Bytes::from_vec(Vec::new(alloc)))
+}
+
+/// An id, the number of its parents, and the parents, and the subject where there is one.
+fn read_node(case: &mut Case<'_>, has_subject: bool) -> Result<Node, CaseFault> {
     let id = case.fields.id()?;
     let count = case.fields.number()?;
     let mut parents = Vec::new(case.alloc);
     for _ in 0..count {
         parents.push(case.fields.id()?)?;
     }
-    Ok(node(case.alloc, id, parents))
+    if has_subject {
+        return Ok(node(id, parents, case.fields.owned()?));
+    }
+    Ok(bare_node(case.alloc, id, parents))
 }
 
 fn put_fault(out: &mut Answer, fault: GraphFault) -> Result<(), AllocError> {
@@ -46,10 +53,19 @@ fn add(graph: &mut Graph, node: Node, out: &mut Answer) -> Result<(), AllocError
 
 /// The number of commits, and the commits, each an id, the number of its parents, and the parents. What is not added is told.
 fn graph_of(case: &mut Case<'_>) -> Result<Graph, CaseFault> {
+    read_graph(case, false)
+}
+
+/// The same with a subject behind the parents of each commit.
+pub fn graph_with_subjects(case: &mut Case<'_>) -> Result<Graph, CaseFault> {
+    read_graph(case, true)
+}
+
+fn read_graph(case: &mut Case<'_>, has_subjects: bool) -> Result<Graph, CaseFault> {
     let count = case.fields.number()?;
     let mut graph = Graph::new(case.alloc);
     for _ in 0..count {
-        let node = read_node(case)?;
+        let node = read_node(case, has_subjects)?;
         add(&mut graph, node, &mut case.out)?;
     }
     Ok(graph)
@@ -79,6 +95,26 @@ pub fn merge_bases(case: &mut Case<'_>) -> Result<(), CaseFault> {
     put_bases(case, &graph, first, second)
 }
 
+/// A graph, the number of tips, the tips, and ids: whether each of these is a tip or an ancestor of one.
+pub fn reached(case: &mut Case<'_>) -> Result<(), CaseFault> {
+    let graph = graph_of(case)?;
+    let count = case.fields.number()?;
+    let mut tips = Vec::new(case.alloc);
+    for _ in 0..count {
+        tips.push(case.fields.id()?)?;
+    }
+    let marks = ancestors(case.alloc, &graph, &tips)?;
+    for _ in 0..case.fields.len() {
+        let id = case.fields.id()?;
+        let reached = match graph.place_of(&id) {
+            Some(place) => marks.get(place).copied() == Some(true),
+            None => false,
+        };
+        case.out.yes_or_no(reached)?;
+    }
+    Ok(())
+}
+
 /// The id that begins with this number, its high byte first.
 fn id_numbered(number: u32) -> Id {
     let mut bytes = [0; 20];
@@ -102,14 +138,14 @@ pub fn chain(case: &mut Case<'_>) -> Result<(), CaseFault> {
     let mut last = first;
     add(
         &mut graph,
-        node(alloc, first, Vec::new(alloc)),
+        bare_node(alloc, first, Vec::new(alloc)),
         &mut case.out,
     )?;
     for number in 1..count {
         let id = id_numbered(number + 1);
         add(
             &mut graph,
-            node(alloc, id, vec![in alloc; last]?),
+            bare_node(alloc, id, vec![in alloc; last]?),
             &mut case.out,
         )?;
         last = id;
@@ -117,7 +153,7 @@ pub fn chain(case: &mut Case<'_>) -> Result<(), CaseFault> {
     put_bases(case, &graph, first, last)?;
     add(
         &mut graph,
-        node(alloc, first, Vec::new(alloc)),
+        bare_node(alloc, first, Vec::new(alloc)),
         &mut case.out,
     )?;
     Ok(())

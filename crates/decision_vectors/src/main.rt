@@ -6,6 +6,7 @@ mod attributes;
 mod graphs;
 mod merges;
 mod outcomes;
+mod plans;
 mod refusals;
 mod stops;
 mod verbs;

@@ -1,6 +1,6 @@
 //! The verbs.
 
-use crate::{attributes, graphs, merges, outcomes};
+use crate::{attributes, graphs, merges, outcomes, plans};
 use cases::{Case, CaseFault, Verbs};
 
 /// The verbs of the crates that decide.
@@ -8,7 +8,7 @@ pub struct DecisionVerbs;
 
 impl Verbs for DecisionVerbs {
     fn answer(&self, verb: &[u8], case: &mut Case<'_>) -> Result<bool, CaseFault> {
-        Ok(of_merges(verb, case)? || of_words(verb, case)?)
+        Ok(of_merges(verb, case)? || of_plans(verb, case)? || of_words(verb, case)?)
     }
 }
 
@@ -19,7 +19,19 @@ fn of_merges(verb: &[u8], case: &mut Case<'_>) -> Result<bool, CaseFault> {
         b"merge-plan" => merges::plan_of(case)?,
         b"merge-maps" => merges::merge(case)?,
         b"merge-bases" => graphs::merge_bases(case)?,
+        b"reached" => graphs::reached(case)?,
         b"merge-bases-of-chain" => graphs::chain(case)?,
+        _ => return Ok(false),
+    }
+    Ok(true)
+}
+
+/// The crate todo_plan.
+fn of_plans(verb: &[u8], case: &mut Case<'_>) -> Result<bool, CaseFault> {
+    match verb {
+        b"plan-linear" => plans::linear(case)?,
+        b"plan-merges" => plans::merges(case)?,
+        b"add-exec" => plans::execs(case)?,
         _ => return Ok(false),
     }
     Ok(true)

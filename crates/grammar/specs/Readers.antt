@@ -169,7 +169,8 @@ with_one x (Ok p) = Ok (x ∷ p.0, p.1)
 with_one x (Err e) = Err e
 
 -- n is no less than the length of the bytes
-unfoldable pub star_at : {S X Z : Type 0} → (ℕ → Bool) → (S → X → S) → (S → List ℕ → Result (X × List ℕ) ℕ) → (S → List ℕ → Result Z ℕ) → ℕ → S → List ℕ → Result (List X × Z) ℕ
+unfoldable pub star_at : {S X Z : Type 0} → (ℕ → Bool) → (S → X → S) → (S → List ℕ → Result (X × List ℕ) ℕ) → (S → List ℕ → Result Z ℕ)
+    → ℕ → S → List ℕ → Result (List X × Z) ℕ
 star_at test next each last n s [] = with_none (last s [])
 star_at test next each last zero s (b ∷ bytes) = Err 0
 star_at test next each last (suc n) s (b ∷ bytes) =
@@ -192,7 +193,8 @@ begins test [] = false
 begins test (b ∷ bytes) = test b
 
 -- what the parts of a star have to meet, at each state that is good
-pub record IsStar {S X Z : Type 0} (IsGood : S → Type 0) (test : ℕ → Bool) (next : S → X → S) (each : S → X → List ℕ → Type 0) (last : S → Z → List ℕ → Type 0)
+pub record IsStar {S X Z : Type 0} (IsGood : S → Type 0) (test : ℕ → Bool) (next : S → X → S)
+    (each : S → X → List ℕ → Type 0) (last : S → Z → List ℕ → Type 0)
     (read_each : S → List ℕ → Result (X × List ℕ) ℕ) (read_last : S → List ℕ → Result Z ℕ) : Type 0 where
   pub reads_each : (s : S) → IsGood s → Reads (each s) (read_each s)
   pub reads_last : (s : S) → IsGood s → ReadsAll (last s) (read_last s)

@@ -1,5 +1,5 @@
 -- Reading who made a commit and when.
-use Rattle.std.proofs.Common.{◌≡◌, ℕ, zero, suc, ◌+◌, ◌-◌, ◌<◌, ◌≤◌, Bool, true, false, cond, not, ◌&&◌, eqb, List, [], ◌∷◌, ◌++◌, length, take, get_or, Some, None, Ok, Err, refl, sym, ap, subst, ◌∙◌, append_assoc, arith, ℤ, FitsSigned}
+use Rattle.std.proofs.Common.{◌≡◌, ℕ, zero, suc, ◌+◌, ◌-◌, ◌<◌, ◌≤◌, Bool, true, false, cond, not, ◌&&◌, eqb, List, [], ◌∷◌, ◌++◌, length, take, get_or, Some, None, Ok, refl, sym, ap, subst, ◌∙◌, append_assoc, arith, ℤ, FitsSigned}
 use Rattle.std.specs.Prelude.{codes}
 use Rattle.std.specs.Int.{w64}
 use Rattle.std.specs.Char.{is_ascii_digit}
@@ -64,13 +64,6 @@ name_of w x v =
 pub name_is : (w : List ℕ) → list_all is_ident_byte w ≡ true → ends_in_space w ≡ true → name_value w ≡ Some (take (length w - 1) w)
 name_is w all space = ap (λ (t : Bool). cond t (Some (take (length w - 1) w)) None) (both_true (list_all is_ident_byte w) (ends_in_space w) all space)
 
-pub name_none : (w : List ℕ) → ends_in_space w ≡ false → name_value w ≡ None
-name_none w space = ap (λ (t : Bool). cond t (Some (take (length w - 1) w)) None) (at (list_all is_ident_byte w))
-  where
-    at : (t : Bool) → (t && ends_in_space w) ≡ false
-    at true = space
-    at false = refl
-
 spaced : (name : List ℕ) → list_all is_ident_byte name ≡ true → name_value (name ++ 32 ∷ []) ≡ Some name
 spaced name on =
     let all : list_all is_ident_byte (name ++ 32 ∷ []) ≡ true = list_all-append is_ident_byte name (32 ∷ []) ∙ rw on refl in
@@ -89,10 +82,6 @@ is_name = record {
 pub name_read : (bytes w rest : List ℕ) → run_at is_ident_byte 60 bytes ≡ Ok (w, rest) → ends_in_space w ≡ true → name_from bytes ≡ Ok (take (length w - 1) w, rest)
 unfolding name_from
 name_read bytes w rest e space = valued_of (list_all is_ident_byte) name_value 60 bytes w rest (Some (take (length w - 1) w)) e (name_is w (span_may (list_all is_ident_byte) 60 bytes w rest refl e) space)
-
-pub name_bad : (bytes w rest : List ℕ) → run_at is_ident_byte 60 bytes ≡ Ok (w, rest) → ends_in_space w ≡ false → name_from bytes ≡ Err (length rest + 1)
-unfolding name_from
-name_bad bytes w rest e space = valued_of (list_all is_ident_byte) name_value 60 bytes w rest None e (name_none w space)
 
 -- a name, and what ends it
 abbrev pub NameText : List ℕ → List ℕ → Type 0
@@ -159,11 +148,6 @@ sign_length bytes x rest e = (sign_reads.takes bytes x rest e).1.0
 
 pub digits_length : (bytes x rest : List ℕ) → passing_at is_ascii_digit 4 bytes ≡ Ok (x, rest) → length x ≡ 4
 digits_length bytes x rest e = (digits_read.takes bytes x rest e).1.0
-
-one_is : (xs : List ℕ) → length xs ≡ 1 → (b : ℕ) × (xs ≡ b ∷ [])
-one_is [] e = absurd (omega arith)
-one_is (b ∷ []) e = (b, refl)
-one_is (b ∷ c ∷ xs) e = absurd (omega arith)
 
 zone_of : (sign digits : List ℕ) → length sign ≡ 1 → list_all is_sign sign ≡ true → length digits ≡ 4 → list_all is_ascii_digit digits ≡ true → is_zone (sign ++ digits) ≡ true
 zone_of [] digits one on four all = absurd (omega arith)

@@ -1,9 +1,9 @@
 -- Reading an author's script.
-use Rattle.std.proofs.Common.{◌≡◌, ℕ, ◌+◌, ◌-◌, ◌<◌, ◌≤◌, Bool, true, false, cond, eqb, ltb, List, [], ◌∷◌, ◌++◌, length, drop, get_or, Option, Some, None, Result, Ok, refl, sym, ap, subst, ◌∙◌, append_assoc, arith, ℤ}
+use Rattle.std.proofs.Common.{◌≡◌, ℕ, ◌+◌, ◌-◌, ◌<◌, Bool, true, false, cond, eqb, ltb, List, [], ◌∷◌, ◌++◌, length, drop, get_or, Option, Some, None, Result, Ok, refl, sym, ap, subst, ◌∙◌, append_assoc, arith, ℤ}
 use Rattle.std.specs.Prelude.{codes, is_some}
 use Rattle.std.specs.Fmt.{signed_decimal}
 use Rattle.std.specs.List.{list_all}
-use Rattle.std.proofs.lemmas.List.{append-nil, length-append, drop_more, drop_all}
+use Rattle.std.proofs.lemmas.List.{append-nil, length-append, drop_more}
 use Rattle.std.proofs.lemmas.Bool.{eqb-true, ltb-true}
 use Rattle.grammar.specs.Grammar.{AllBytes}
 use Rattle.grammar.specs.Readers.{◌>>=◌, Reads, ReadsAll, HasText, Then, then_all, Nothing, Word, IsWord, Literal, literal_at, end_at}
@@ -376,16 +376,9 @@ front_behind q front seen b s e =
 pub record Unquoting (total : Option (List ℕ)) (value : List ℕ) (q : Quotes) (rest : List ℕ) : Type 0 where
   pub same : with_shown value (value_behind (Some q) rest) ≡ total
 
-with_shown-none : (o : Option (List ℕ)) → with_shown [] o ≡ o
-with_shown-none None = refl
-with_shown-none (Some x) = refl
-
 with_shown-more : (a b : List ℕ) (o : Option (List ℕ)) → with_shown a (with_shown b o) ≡ with_shown (a ++ b) o
 with_shown-more a b None = refl
 with_shown-more a b (Some x) = ap (λ (t : List ℕ). Some t) (sym (append_assoc a b x))
-
-pub unquoting_none : (w : List ℕ) → Unquoting (quoted_value w) [] Inside w
-unquoting_none w = record { same = with_shown-none (value_behind (Some Inside) w) }
 
 pub unquoting_more : (total : Option (List ℕ)) (value w : List ℕ) (q next : Quotes) (i : ℕ) → i < length w → Some next ≡ behind q (get_or w i 0) → Unquoting total value q (drop i w)
     → Unquoting total (value ++ shown q (get_or w i 0)) next (drop (i + 1) w)
@@ -397,24 +390,6 @@ unquoting_more total value w q next i lt is u = record {
       ap (value_behind (Some q)) (drop_more w i 0 lt) ∙ ap (λ (o : Option Quotes). with_shown (shown q b) (value_behind o rest)) (sym is) in
       sym (with_shown-more value (shown q b) (value_behind (Some next) rest)) ∙ ap (with_shown value) (sym step) ∙ u.same;
 }
-
-pub unquoting_bad : (total : Option (List ℕ)) (value w : List ℕ) (q : Quotes) (i : ℕ) → i < length w → None ≡ behind q (get_or w i 0) → Unquoting total value q (drop i w) → None ≡ total
-unquoting_bad total value w q i lt is u =
-    let b = get_or w i 0 in
-    let rest = drop (i + 1) w in
-    let step : value_behind (Some q) (drop i w) ≡ None =
-    ap (value_behind (Some q)) (drop_more w i 0 lt) ∙ ap (λ (o : Option Quotes). with_shown (shown q b) (value_behind o rest)) (sym is) in
-    sym (ap (with_shown value) step) ∙ u.same
-
-pub unquoting_closed : (total : Option (List ℕ)) (value w : List ℕ) (i : ℕ) → length w ≤ i → Unquoting total value Closed (drop i w) → Some value ≡ total
-unquoting_closed total value w i done u =
-    let step : value_behind (Some Closed) (drop i w) ≡ Some [] = ap (value_behind (Some Closed)) (drop_all i w done) in
-    ap (λ (t : List ℕ). Some t) (sym (append-nil value)) ∙ sym (ap (with_shown value) step) ∙ u.same
-
-pub unquoting_open : (total : Option (List ℕ)) (value w : List ℕ) (q : Quotes) (i : ℕ) → length w ≤ i → (value_behind (Some q) [] ≡ None) → Unquoting total value q (drop i w) → None ≡ total
-unquoting_open total value w q i done none u =
-    let step : value_behind (Some q) (drop i w) ≡ None = ap (value_behind (Some q)) (drop_all i w done) ∙ none in
-    sym (ap (with_shown value) step) ∙ u.same
 
 -- the line of a time, in pieces
 pub date_written : (old key secs zone end : List ℕ) → ((((old ++ key) ++ secs) ++ 32 ∷ []) ++ zone) ++ end ≡ old ++ (key ++ secs ++ 32 ∷ zone ++ end)

@@ -1,9 +1,11 @@
--- Who made a commit and when, `<name> SP < <email> > SP <secs> SP <zone>` (git-commit-tree(1), "Commit Information"; "Git internal format" of DATE FORMATS).
-use Rattle.std.specs.Prelude.{◌≡◌, ℕ, Bool, true, not, ◌&&◌, ◌||◌, ◌==◌, nat_lt, List, ◌∷◌, ◌++◌, length, drop, slice_index, codes, FitsSigned}
+-- Who made a commit and when, `<name> SP < <email> > SP <secs> SP <zone>` (git-commit-tree(1), "Commit Information"; "Git internal
+-- format" of DATE FORMATS).
+use Rattle.std.specs.Prelude.{◌≡◌, ℕ, Bool, true, not, ◌&&◌, ◌||◌, ◌==◌, nat_lt, ◌∷◌, ◌++◌, length, drop, slice_index, codes, FitsSigned}
 use Rattle.std.specs.Int.{w64}
 use Rattle.std.specs.Char.{is_ascii_digit}
 use Rattle.std.specs.Fmt.{signed_decimal}
 use Rattle.std.specs.List.{list_all}
+use Rattle.seq_base.specs.Words.{Text}
 use Rattle.ident_text.specs.declared.ident.Ident.{Ident}
 
 -- a name and an email hold neither `<` nor `>` nor LF nor NUL
@@ -15,7 +17,7 @@ abbrev pub is_sign : ℕ → Bool
 is_sign b = b == 43 || b == 45
 
 -- a sign and four digits
-abbrev pub is_zone : List ℕ → Bool
+abbrev pub is_zone : Text → Bool
 is_zone zone = length zone == 5 && is_sign (slice_index zone 0) && list_all is_ascii_digit (drop 1 zone)
 
 -- some text is the ident's
@@ -25,15 +27,15 @@ pub record IsIdentValue (ident : Ident) : Type 0 where
   pub zone : is_zone ident.zone ≡ true
 
 -- the text of an ident: the seconds have no plus sign, and no 0 before other digits
-abbrev pub ident_text : Ident → List ℕ
+abbrev pub ident_text : Ident → Text
 ident_text ident = ident.name ++ codes " <" ++ ident.email ++ codes "> " ++ signed_decimal ident.secs ++ 32 ∷ ident.zone
 
 -- the text is the ident's
-pub record IsIdent (ident : Ident) (text : List ℕ) : Type 0 where
+pub record IsIdent (ident : Ident) (text : Text) : Type 0 where
   pub value : IsIdentValue ident
   pub fits : FitsSigned w64 ident.secs
   pub text_is : text ≡ ident_text ident
 
 -- the text of some ident
-abbrev pub IsIdentText : List ℕ → Type 0
+abbrev pub IsIdentText : Text → Type 0
 IsIdentText text = (ident : Ident) × IsIdent ident text

@@ -3,27 +3,25 @@ use Rattle.std.proofs.Common.{◌≡◌, ◌⊎◌, inl, inr, ℕ, zero, suc, �
 use Rattle.std.specs.List.{AllByRecursion, flat_map}
 use Rattle.std.specs.Int.{w32, from_be_bytes, to_be_bytes}
 use Rattle.std.specs.Str.{bytes_eq}
-use Rattle.std.specs.Global.{Vec}
-use Rattle.std.specs.Prelude.{IfErr}
 use Rattle.std.proofs.lemmas.Bool.Decides.{nat_tests}
 use Rattle.std.proofs.lemmas.Bool.{eqb-true, cases_lt}
-use Rattle.std.proofs.lemmas.List.{append-nil, take_at, drop_at, take-append-drop, length-append, length-take, length-drop, length-map}
+use Rattle.std.proofs.lemmas.List.{append-nil, take_at, take-append-drop, length-append, length-take, length-drop, length-map}
 use Rattle.hex.specs.Hex.{IsBytes}
 use Rattle.seq_base.specs.declared.mode.Mode.{Mode}
 use Rattle.index_file.specs.declared.entry.IndexEntry.{IndexEntry}
 use Rattle.index_file.specs.declared.fault.IndexFault.{IndexFault}
 use Rattle.index_file.specs.declared.fault.IndexFault.TheVariants as fault
 use Rattle.index_file.specs.Entries.{IsInOrder}
-use Rattle.index_file.specs.Spelling.{Stat, IsRow, row_text, IsWhole, Extension, IsExtension, IsCapital, extension_text, header_text, body_text, IsTrailer, flags_in, size_of}
+use Rattle.index_file.specs.Spelling.{Stat, IsRow, row_text, IsWhole, Extension, IsExtension, IsCapital, extension_text, header_text, body_text, flags_in, size_of}
 use Rattle.index_file.specs.Fronts.{may_follow}
-use Rattle.index_file.specs.Faults.{Stands, StandsAtRow, StandsBehind, IsCutHeader, IsCutEntry, IsCutExtension, IsCutTrailer, IsFirstFault, IsFirstFaultOrMemory}
-use Rattle.index_file.specs.Reading.{Gives, ◌>>=◌, number_at, header_at, whole_at, entry_of, entry_in, entry_at, appended, entries_at, extension_at, trailer_at, is_trailer, is_capital, is_path, are_zero, index_of}
+use Rattle.index_file.specs.Faults.{Stands, StandsAtRow, StandsBehind, IsFirstFault}
+use Rattle.index_file.specs.Reading.{◌>>=◌, number_at, header_at, whole_at, entry_of, entry_in, entry_at, appended, entries_at, extension_at, trailer_at, is_trailer, is_capital, is_path, are_zero, index_of}
 use Rattle.index_file.proofs.EntryLoop.{appended_is}
 use Rattle.index_file.proofs.Sorted.{in_order_push}
 use Rattle.index_file.proofs.Trailers.{shorter, no_more}
-use Rattle.index_file.proofs.Rows.{IsBytes-drop, whole_takes, whole_again, stat_of, row_taken, row_again, row_whole}
-use Rattle.index_file.proofs.Sequences.{bytes_left, entry_takes, entry_again, entries_of, entries_take, entries_on, may_from, first_byte, extension_takes, trailer_takes, trailer_on, trailer_again}
-use Rattle.index_file.proofs.Whole.{number_takes, number_again, same_bytes, header_by, header_takes, header_again, trailer_from, trailer_passes, reads_tail, front_of_body, body_of}
+use Rattle.index_file.proofs.Rows.{IsBytes-drop, whole_takes, whole_again, row_again}
+use Rattle.index_file.proofs.Sequences.{bytes_left, entry_takes, entries_of, entries_take, may_from, first_byte, extension_takes, trailer_takes}
+use Rattle.index_file.proofs.Whole.{number_takes, same_bytes, header_takes, trailer_passes, front_of_body, body_of}
 
 -- ---- steps that fail
 
@@ -82,9 +80,6 @@ number_err bytes f e =
 
 pub number_fails : (bytes : List ℕ) → length bytes < 4 → number_at bytes ≡ failed fault.Count
 number_fails bytes lt = ap (λ (b : Bool). cond b (Err fault.Count) (Ok (from_be_bytes w32 (take 4 bytes), drop 4 bytes))) (less_is (length bytes) 4 lt)
-
-abbrev FaultAt : List ℕ → IndexFault → Type 0
-FaultAt bytes f = IsFirstFault bytes f
 
 version_err : (bytes : List ℕ) (f : IndexFault) (v : ℕ × List ℕ) → IsBytes (drop 4 bytes) → bytes ≡ codes "DIRC" ++ drop 4 bytes → number_at (drop 4 bytes) ≡ Ok v
     → (t : Bool) → (v.0 == 2) ≡ t → cond t (number_at v.1) (Err (fault.Version v.0)) ≡ failed f → IsFirstFault bytes f
@@ -264,10 +259,6 @@ not_capital b e h = let p = h.0 in let q = h.1 in grind (arith, nat_tests)
 
 pub capital_passes : (b : ℕ) → IsCapital b → not (is_capital b) ≡ false
 capital_passes b h = let p = h.0 in let q = h.1 in grind (arith, nat_tests)
-
-small_by : (a b : Bool) → (a ≡ true → b ≡ true → ⊥) → a ≡ true → b ≡ false
-small_by a true h p = absurd (h p refl)
-small_by a false h p = refl
 
 abbrev pub size_in : List ℕ → ℕ
 size_in left = from_be_bytes w32 (take 4 (drop 4 left))

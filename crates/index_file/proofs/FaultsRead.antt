@@ -1,13 +1,13 @@
 -- The first fault is what reading gives.
-use Rattle.std.proofs.Common.{◌≡◌, ◌⊎◌, inl, inr, ℕ, zero, suc, ◌+◌, ◌-◌, ◌^◌, ◌<◌, ◌≤◌, Bool, true, false, not, ◌==◌, nat_lt, cond, List, [], ◌∷◌, ◌++◌, length, take, drop, slice_index, map, codes, Result, Ok, Err, refl, sym, ap, subst, ◌∙◌, append_assoc, arith}
+use Rattle.std.proofs.Common.{◌≡◌, ◌⊎◌, inl, inr, ℕ, zero, suc, ◌+◌, ◌-◌, ◌^◌, ◌<◌, ◌≤◌, Bool, true, false, not, ◌==◌, nat_lt, cond, List, [], ◌∷◌, ◌++◌, length, take, drop, slice_index, codes, Result, Ok, Err, refl, sym, ap, subst, ◌∙◌, arith}
 use Rattle.std.specs.List.{flat_map}
-use Rattle.std.specs.Int.{w32, from_be_bytes, to_be_bytes}
+use Rattle.std.specs.Int.{w32, to_be_bytes}
 use Rattle.std.specs.Str.{bytes_eq}
 use Rattle.std.specs.Global.{Vec}
 use Rattle.std.specs.Prelude.{IfErr}
 use Rattle.std.proofs.lemmas.Bool.{cases_lt}
 use Rattle.std.proofs.lemmas.Bool.Decides.{nat_tests}
-use Rattle.std.proofs.lemmas.List.{take_at, drop_at, take-append-drop, length-append, length-drop, length-map}
+use Rattle.std.proofs.lemmas.List.{take_at, take-append-drop, length-append, length-drop, length-map}
 use Rattle.hex.specs.Hex.{IsBytes}
 use Rattle.index_file.specs.declared.entry.IndexEntry.{IndexEntry}
 use Rattle.index_file.specs.declared.fault.IndexFault.{IndexFault}
@@ -19,7 +19,7 @@ use Rattle.index_file.specs.Faults.{Stands, StandsAtRow, StandsBehind, IsFirstFa
 use Rattle.index_file.specs.Reading.{Gives, ◌>>=◌, number_at, header_at, whole_at, entry_in, entry_at, appended, entries_at, extension_at, trailer_at, is_trailer, is_capital, index_of}
 use Rattle.index_file.proofs.Sorted.{in_order_push}
 use Rattle.index_file.proofs.Rows.{whole_takes, whole_again, stat_of, row_taken}
-use Rattle.index_file.proofs.Sequences.{bytes_left, entry_again, entries_of, entries_on, first_byte, first_of_append, trailer_on, trailer_again}
+use Rattle.index_file.proofs.Sequences.{bytes_left, entry_again, entries_of, entries_on, first_of_append, trailer_on, trailer_again}
 use Rattle.index_file.proofs.Whole.{number_again, header_by, header_again, trailer_from, reads_tail, front_of_body, body_of}
 use Rattle.index_file.proofs.FaultLaws.{failed, number_fails, less_is, is_not_less, other_test, other_bytes, size_in, capital_is, capital_passes, whole_err, in_err, map_push, index_err}
 

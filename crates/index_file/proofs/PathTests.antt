@@ -1,7 +1,7 @@
 -- The test for a path says what `IsPath` says.
-use Rattle.std.proofs.Common.{◌≡◌, ◌⊎◌, inl, inr, ℕ, ◌<◌, ◌≤◌, Bool, true, false, not, ◌&&◌, ◌==◌, nat_le, ◌/◌, ◌%◌, cond, List, length, Option, Some, None, Ok, Err, refl, sym, ap, ◌∙◌, arith}
+use Rattle.std.proofs.Common.{◌≡◌, ◌⊎◌, inl, inr, ℕ, ◌<◌, ◌≤◌, Bool, true, false, not, ◌&&◌, ◌==◌, nat_le, ◌/◌, ◌%◌, cond, List, length, Option, Some, None, Ok, Err, refl, ap, arith}
 use Rattle.std.specs.Prelude.{is_none}
-use Rattle.std.specs.Str.{IsUtf8, is_utf8, IsValidUpTo}
+use Rattle.std.specs.Str.{IsUtf8, is_utf8}
 use Rattle.std.proofs.lemmas.Bool.Decides.{nat_tests}
 use Rattle.std.proofs.lemmas.Str.{IsUtf8-from_is_utf8, is_utf8-from_IsUtf8}
 use Rattle.seq_base.specs.Paths.{IsPath, IsPathFaultOrMemory, first_bad, parts}

@@ -1,17 +1,17 @@
 -- Entries and extensions one after the other: what is read is spelled so, and what is spelled so is read.
-use Rattle.std.proofs.Common.{◌≡◌, ℕ, zero, suc, ◌+◌, ◌-◌, ◌^◌, ◌<◌, ◌≤◌, Bool, true, false, not, ◌&&◌, ◌==◌, nat_lt, nat_le, cond, List, [], ◌∷◌, ◌++◌, length, take, drop, slice_index, map, Result, Ok, Err, refl, sym, ap, subst, ◌∙◌, append_assoc, arith}
-use Rattle.std.specs.List.{AllByRecursion, flat_map, list_all}
+use Rattle.std.proofs.Common.{◌≡◌, ℕ, zero, suc, ◌+◌, ◌^◌, ◌<◌, ◌≤◌, Bool, true, false, not, ◌&&◌, ◌==◌, nat_lt, cond, List, [], ◌∷◌, ◌++◌, length, take, drop, slice_index, map, Result, Ok, Err, refl, sym, ap, subst, ◌∙◌, append_assoc, arith}
+use Rattle.std.specs.List.{AllByRecursion, flat_map}
 use Rattle.std.specs.Int.{w32, from_be_bytes, to_be_bytes}
 use Rattle.std.proofs.lemmas.Bool.Decides.{nat_tests}
 use Rattle.std.proofs.lemmas.Bool.{eqb-true}
-use Rattle.std.proofs.lemmas.List.{append-nil, take_at, drop_at, take-append-drop, length-append, length-take, length-drop, take-take, drop-drop, append_cancel_left}
+use Rattle.std.proofs.lemmas.List.{append-nil, take_at, drop_at, take-append-drop, length-append, length-take, length-drop, drop-drop}
 use Rattle.std.proofs.lemmas.Nat.{be_bytes_4, from_be_bytes-to_be_bytes_4}
 use Rattle.hex.specs.Hex.{IsBytes}
 use Rattle.index_file.specs.declared.entry.IndexEntry.{IndexEntry}
 use Rattle.index_file.specs.declared.fault.IndexFault.{IndexFault}
 use Rattle.index_file.specs.declared.fault.IndexFault.TheVariants as fault
 use Rattle.index_file.specs.Entries.{IsInOrder, may_precede}
-use Rattle.index_file.specs.Spelling.{Stat, IsRow, row_text, Extension, IsExtension, extension_text, IsWhole}
+use Rattle.index_file.specs.Spelling.{Stat, IsRow, row_text, Extension, IsExtension, extension_text}
 use Rattle.index_file.specs.Fronts.{may_follow}
 use Rattle.index_file.specs.Reading.{◌>>=◌, whole_at, entry_in, entry_at, appended, entries_at, extension_at, trailer_at, is_capital}
 use Rattle.index_file.proofs.EntryLoop.{appended_is}

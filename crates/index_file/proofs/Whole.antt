@@ -5,10 +5,10 @@ use Rattle.std.specs.Global.{Vec}
 use Rattle.std.specs.List.{AllByRecursion, flat_map}
 use Rattle.std.specs.Int.{w32, from_be_bytes, to_be_bytes}
 use Rattle.std.specs.Str.{bytes_eq}
-use Rattle.std.specs.Cmp.Lexicographic.{nat_list_eq_equiv, bytes_decides}
+use Rattle.std.specs.Cmp.Lexicographic.{nat_list_eq_equiv}
 use Rattle.std.proofs.lemmas.Bool.Decides.{nat_tests}
 use Rattle.std.proofs.lemmas.Bool.{eqb-true}
-use Rattle.std.proofs.lemmas.List.{append-nil, take_at, drop_at, take-append-drop, length-append, length-take, length-drop, length-map, length-replicate}
+use Rattle.std.proofs.lemmas.List.{append-nil, take_at, drop_at, take-append-drop, length-append, length-take, length-map}
 use Rattle.std.proofs.lemmas.Nat.{be_bytes_4, from_be_bytes-to_be_bytes_4}
 use Rattle.hex.specs.Hex.{IsBytes}
 use Rattle.sha1.specs.Sha1.{sha1, digest_bytes}
@@ -16,7 +16,7 @@ use Rattle.index_file.specs.declared.entry.IndexEntry.{IndexEntry}
 use Rattle.index_file.specs.declared.fault.IndexFault.{IndexFault}
 use Rattle.index_file.specs.declared.fault.IndexFault.TheVariants as fault
 use Rattle.index_file.specs.Entries.{IsInOrder, IsStaged, IsIndex}
-use Rattle.index_file.specs.Spelling.{Stat, IsStat, IsRow, row_text, Extension, IsExtension, extension_text, header_text, body_text, IsTrailer, Spells, no_stat, entry_text, index_text}
+use Rattle.index_file.specs.Spelling.{Stat, IsRow, row_text, Extension, extension_text, header_text, body_text, IsTrailer, Spells, no_stat, entry_text, index_text}
 use Rattle.index_file.specs.Reading.{Gives, ◌>>=◌, number_at, header_at, entries_at, trailer_at, is_trailer, are_zero, index_of}
 use Rattle.index_file.proofs.Rows.{IsBytes-drop, IsBytes-take, zeros_are, zeros_pass}
 use Rattle.index_file.proofs.Sequences.{bind_ok, ok_is, bytes_left, entries_of, entries_take, entries_on, trailer_takes, trailer_again}

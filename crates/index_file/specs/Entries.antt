@@ -1,9 +1,7 @@
 -- The entries of an index and their order (gitformat-index(5), "Index entry": sorted by name, and then by stage).
-use Rattle.std.specs.Prelude.{◌≡◌, ℕ, ◌<◌, ◌^◌, Bool, true, not, ◌&&◌, ◌||◌, ◌==◌, nat_lt, List, [], ◌∷◌, length}
+use Rattle.std.specs.Prelude.{◌≡◌, ◌<◌, ◌^◌, Bool, true, not, ◌&&◌, ◌||◌, ◌==◌, nat_lt, List, [], ◌∷◌, length}
 use Rattle.std.specs.List.{AllByRecursion}
 use Rattle.std.specs.Str.{bytes_eq}
-use Rattle.hex.specs.Hex.{IsBytes}
-use Rattle.seq_base.specs.Paths.{IsPath}
 use Rattle.seq_base.specs.PathMaps.{is_less}
 use Rattle.seq_base.specs.World.{is_below}
 use Rattle.seq_base.specs.declared.mode.Mode.TheVariants.{Folder}

@@ -1,8 +1,9 @@
 -- Reading an index from the left (gitformat-index(5)).
-use Rattle.std.specs.Prelude.{◌≡◌, ℕ, zero, suc, ◌+◌, ◌-◌, ◌/◌, ◌%◌, Bool, true, false, not, ◌&&◌, ◌||◌, ◌==◌, nat_lt, nat_le, if◌then◌else◌, List, [], ◌∷◌, ◌++◌, length, take, drop, slice_index, Option, Some, None, Result, Ok, Err, codes, is_none}
+use Rattle.std.specs.Prelude.{◌≡◌, ℕ, zero, suc, ◌+◌, ◌-◌, ◌/◌, ◌%◌, Bool, not, ◌&&◌, ◌||◌, ◌==◌, nat_lt, nat_le, if◌then◌else◌, List, [], ◌∷◌, ◌++◌, length, take, drop, slice_index, Option, Some, None, Result, Ok, Err, codes, is_none}
 use Rattle.std.specs.List.{list_all}
 use Rattle.std.specs.Int.{w32, from_be_bytes}
 use Rattle.std.specs.Str.{bytes_eq, is_utf8}
+use Rattle.seq_base.specs.Words.{Id, Path, Text}
 use Rattle.sha1.specs.Sha1.{sha1}
 use Rattle.seq_base.specs.Paths.{parts, first_bad}
 use Rattle.seq_base.specs.declared.mode.Mode.{Mode}
@@ -30,41 +31,50 @@ Gives view (Err e) read = Fails e read
 -- ---- fields
 
 -- so many bytes, and those behind them
-abbrev pub front_at : ℕ → List ℕ → Result (List ℕ × List ℕ) IndexFault
+abbrev pub front_at : ℕ → Text → Result (Text × Text) IndexFault
 front_at n bytes = if nat_lt (length bytes) n then Err Count else Ok (take n bytes, drop n bytes)
 
-abbrev pub number_at : List ℕ → Result (ℕ × List ℕ) IndexFault
+abbrev pub number_at : Text → Result (ℕ × Text) IndexFault
 number_at bytes = if nat_lt (length bytes) 4 then Err Count else Ok (from_be_bytes w32 (take 4 bytes), drop 4 bytes)
 
 abbrev pub mode_of : ℕ → Option Mode
-mode_of n = if n == 33188 then Some File else if n == 33261 then Some Exec else if n == 40960 then Some Link else if n == 57344 then Some Gitlink else None
+mode_of n =
+    if n == 33188 then Some File
+    else if n == 33261 then Some Exec
+    else if n == 40960 then Some Link
+    else if n == 57344 then Some Gitlink
+    else None
 
 -- `IsPath` as a test
-abbrev pub is_path : List ℕ → Bool
+abbrev pub is_path : Path → Bool
 is_path bytes = not (length bytes == 0) && (nat_le (length bytes) 4095 && (is_utf8 bytes && is_none (first_bad 0 (parts bytes))))
 
-abbrev pub are_zero : List ℕ → Bool
+abbrev pub are_zero : Text → Bool
 are_zero bytes = list_all (λ b. b == 0) bytes
 
 -- ---- entries
 
 -- the entry that has these fields, if each is as it should be
-unfoldable pub entry_of : ℕ → Option Mode → List ℕ → ℕ → List ℕ → List ℕ → Result IndexEntry IndexFault
+unfoldable pub entry_of : ℕ → Option Mode → Id → ℕ → Path → Text → Result IndexEntry IndexFault
 entry_of number None id flags path nuls = Err (Name number)
 entry_of number (Some mode) id flags path nuls =
-    if flags / 16384 % 2 == 0 && (are_zero nuls && is_path path) then Ok (record { path = path; stage = flags / 4096 % 4; mode = mode; id = id }) else Err (Name number)
+    if flags / 16384 % 2 == 0 && (are_zero nuls && is_path path)
+    then Ok (record { path = path; stage = flags / 4096 % 4; mode = mode; id = id })
+    else Err (Name number)
 
 -- the bytes of an entry, and those behind them
-unfoldable pub whole_at : List ℕ → Result (List ℕ × List ℕ) IndexFault
+unfoldable pub whole_at : Text → Result (Text × Text) IndexFault
 whole_at bytes = if nat_lt (length bytes) 62 then Err Count else front_at (size_of (flags_in bytes)) bytes
 
 -- the entry that bytes of the right number spell
-unfoldable pub entry_in : ℕ → List ℕ → Result IndexEntry IndexFault
+unfoldable pub entry_in : ℕ → Text → Result IndexEntry IndexFault
 entry_in number text =
-    entry_of number (mode_of (from_be_bytes w32 (take 4 (drop 24 text)))) (take 20 (drop 40 text)) (flags_in text) (take (flags_in text % 4096) (drop 62 text)) (drop (62 + flags_in text % 4096) text)
+    entry_of number (mode_of (from_be_bytes w32 (take 4 (drop 24 text)))) (take 20 (drop 40 text)) (flags_in text)
+    (take (flags_in text % 4096) (drop 62 text))
+    (drop (62 + flags_in text % 4096) text)
 
 -- entry of a number
-unfoldable pub entry_at : ℕ → List ℕ → Result (IndexEntry × List ℕ) IndexFault
+unfoldable pub entry_at : ℕ → Text → Result (IndexEntry × Text) IndexFault
 entry_at number bytes = do
   whole ← whole_at bytes
   entry ← entry_in number whole.0
@@ -75,7 +85,7 @@ unfoldable pub appended : List IndexEntry → IndexEntry → Result (List IndexE
 appended es e = if may_follow es e then Ok (es ++ e ∷ []) else Err (Order (length es + 1))
 
 -- so many more entries behind those that were read
-unfoldable pub entries_at : ℕ → List IndexEntry → List ℕ → Result (List IndexEntry × List ℕ) IndexFault
+unfoldable pub entries_at : ℕ → List IndexEntry → Text → Result (List IndexEntry × Text) IndexFault
 entries_at zero es bytes = Ok (es, bytes)
 entries_at (suc n) es bytes = do
   entry ← entry_at (length es + 1) bytes
@@ -85,14 +95,17 @@ entries_at (suc n) es bytes = do
 -- ---- the whole
 
 -- how many entries follow
-unfoldable pub header_at : List ℕ → Result (ℕ × List ℕ) IndexFault
-header_at bytes = if bytes_eq (take 4 bytes) (codes "DIRC") then (number_at (drop 4 bytes) >>= λ version. if version.0 == 2 then number_at version.1 else Err (Version version.0)) else Err Magic
+unfoldable pub header_at : Text → Result (ℕ × Text) IndexFault
+header_at bytes =
+    if bytes_eq (take 4 bytes) (codes "DIRC")
+    then (number_at (drop 4 bytes) >>= λ version. if version.0 == 2 then number_at version.1 else Err (Version version.0))
+    else Err Magic
 
 abbrev pub is_capital : ℕ → Bool
 is_capital b = nat_le 65 b && nat_le b 90
 
 -- what stands behind an extension: at least a trailer
-unfoldable pub extension_at : List ℕ → Result (List ℕ) IndexFault
+unfoldable pub extension_at : Text → Result Text IndexFault
 extension_at bytes =
     if nat_lt (length bytes) 28 then Err Count
     else if not (is_capital (slice_index bytes 0)) then Err (Extension (take 4 bytes))
@@ -100,16 +113,16 @@ extension_at bytes =
     else Ok (drop (8 + from_be_bytes w32 (take 4 (drop 4 bytes))) bytes)
 
 -- what stands behind all extensions, of which there are at most n
-unfoldable pub trailer_at : ℕ → List ℕ → Result (List ℕ) IndexFault
+unfoldable pub trailer_at : ℕ → Text → Result Text IndexFault
 trailer_at zero bytes = if length bytes == 20 then Ok bytes else Err Count
 trailer_at (suc n) bytes = if length bytes == 20 then Ok bytes else (extension_at bytes >>= λ rest. trailer_at n rest)
 
 -- the trailer is zero or the SHA-1 of all before it
-abbrev pub is_trailer : List ℕ → List ℕ → Bool
+abbrev pub is_trailer : Text → Text → Bool
 is_trailer body trailer = bytes_eq trailer (sha1 body) || are_zero trailer
 
 -- the entries that the bytes spell, or the first fault
-unfoldable pub index_of : List ℕ → Result (List IndexEntry) IndexFault
+unfoldable pub index_of : Text → Result (List IndexEntry) IndexFault
 index_of bytes = do
   count ← header_at bytes
   entries ← entries_at count.0 [] count.1

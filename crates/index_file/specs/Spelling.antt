@@ -3,6 +3,7 @@ use Rattle.std.specs.Prelude.{◌≡◌, ℕ, ◌+◌, ◌-◌, ◌*◌, ◌%◌
 use Rattle.std.specs.List.{AllByRecursion, flat_map}
 use Rattle.std.specs.Int.{w16, w32, to_be_bytes, from_be_bytes}
 use Rattle.hex.specs.Hex.{IsBytes}
+use Rattle.seq_base.specs.Words.{Text}
 use Rattle.sha1.specs.Sha1.{sha1}
 use Rattle.seq_base.specs.Modes.{mode_number}
 use Rattle.seq_base.specs.Paths.{IsPath}
@@ -12,8 +13,8 @@ use Rattle.index_file.specs.Entries.{IsStaged, IsIndex}
 
 -- what a file says of an entry and a reader does not look at: ctime, mtime, dev and ino; uid, gid and size; the assume-valid bit
 pub record Stat : Type 0 where
-  pub times : List ℕ
-  pub owner : List ℕ
+  pub times : Text
+  pub owner : Text
   pub assumed : ℕ
 
 -- as many bytes as the words take, and one bit
@@ -38,11 +39,13 @@ padding n = 8 - n % 8
 abbrev pub flags : ℕ → IndexEntry → ℕ
 flags assumed e = assumed * 32768 + e.stage * 4096 + length e.path
 
-abbrev pub row_text : Stat × IndexEntry → List ℕ
-row_text r = r.0.times ++ (to_be_bytes w32 (mode_number r.1.mode) ++ (r.0.owner ++ (r.1.id ++ (to_be_bytes w16 (flags r.0.assumed r.1) ++ (r.1.path ++ replicate (padding (62 + length r.1.path)) 0)))))
+abbrev pub row_text : Stat × IndexEntry → Text
+row_text r =
+    r.0.times ++ (to_be_bytes w32 (mode_number r.1.mode) ++ (r.0.owner ++ (r.1.id ++ (
+    to_be_bytes w16 (flags r.0.assumed r.1) ++ (r.1.path ++ replicate (padding (62 + length r.1.path)) 0)))))
 
 -- the flags in the bytes of an entry, which stand behind its stat words and its id
-abbrev pub flags_in : List ℕ → ℕ
+abbrev pub flags_in : Text → ℕ
 flags_in bytes = from_be_bytes w16 (take 2 (drop 60 bytes))
 
 -- how many bytes an entry with these flags takes
@@ -50,14 +53,14 @@ abbrev pub size_of : ℕ → ℕ
 size_of flags = 62 + flags % 4096 + padding (62 + flags % 4096)
 
 -- as many bytes as an entry with the flags in them takes
-pub record IsWhole (text : List ℕ) : Type 0 where
+pub record IsWhole (text : Text) : Type 0 where
   pub long : 62 ≤ length text
   pub size : length text ≡ size_of (flags_in text)
 
 -- an extension that a reader may skip
 pub record Extension : Type 0 where
-  pub tag : List ℕ
-  pub content : List ℕ
+  pub tag : Text
+  pub content : Text
 
 -- a letter from A to Z
 abbrev pub IsCapital : ℕ → Type 0
@@ -69,30 +72,30 @@ pub record IsExtension (x : Extension) : Type 0 where
   pub capital : IsCapital (slice_index x.tag 0)
   pub content : length x.content < 2 ^ 32
 
-abbrev pub extension_text : Extension → List ℕ
+abbrev pub extension_text : Extension → Text
 extension_text x = x.tag ++ (to_be_bytes w32 (length x.content) ++ x.content)
 
 -- the signature, the version and how many entries follow
-abbrev pub header_text : ℕ → List ℕ
+abbrev pub header_text : ℕ → Text
 header_text count = codes "DIRC" ++ (to_be_bytes w32 2 ++ to_be_bytes w32 count)
 
 -- all but the trailer
-abbrev pub body_text : List (Stat × IndexEntry) → List Extension → List ℕ
+abbrev pub body_text : List (Stat × IndexEntry) → List Extension → Text
 body_text rows extensions = header_text (length rows) ++ (flat_map row_text rows ++ flat_map extension_text extensions)
 
 -- the SHA-1 of what stands before, or zero, where git was told to write none (index.skipHash)
-abbrev pub IsTrailer : List ℕ → List ℕ → Type 0
+abbrev pub IsTrailer : Text → Text → Type 0
 IsTrailer body trailer = (trailer ≡ sha1 body) ⊎ (trailer ≡ replicate 20 0)
 
 -- these bytes spell the entries
-pub record Spells (es : List IndexEntry) (bytes : List ℕ) : Type 0 where
+pub record Spells (es : List IndexEntry) (bytes : Text) : Type 0 where
   pub index : IsIndex es
   pub rows : List (Stat × IndexEntry)
   pub entries : map (λ r. r.1) rows ≡ es
   pub are_rows : AllByRecursion IsRow rows
   pub extensions : List Extension
   pub are_extensions : AllByRecursion IsExtension extensions
-  pub trailer : List ℕ
+  pub trailer : Text
   pub is_trailer : IsTrailer (body_text rows extensions) trailer
   pub text : bytes ≡ body_text rows extensions ++ trailer
 
@@ -102,9 +105,9 @@ pub record Spells (es : List IndexEntry) (bytes : List ℕ) : Type 0 where
 abbrev pub no_stat : Stat
 no_stat = record { times = replicate 24 0; owner = replicate 12 0; assumed = 0 }
 
-abbrev pub entry_text : IndexEntry → List ℕ
+abbrev pub entry_text : IndexEntry → Text
 entry_text e = row_text (no_stat, e)
 
 -- no stat words but the mode, no extension, and the SHA-1 of all before it
-abbrev pub index_text : List IndexEntry → List ℕ
+abbrev pub index_text : List IndexEntry → Text
 index_text es = (header_text (length es) ++ flat_map entry_text es) ++ sha1 (header_text (length es) ++ flat_map entry_text es)

@@ -53,7 +53,8 @@ fn common_len(a: &[u8], b: &[u8]) -> usize
 #[tactic(auto, using(crate::proofs::FrontLaws::common_le, crate::proofs::FrontLaws::common_is))]
 fn move_to(files: &mut Vec<bool>, last: &[u8], path: &[u8]) -> Result<(), AllocError>
     requires { length files.old.items ≡ length last.now + 1 }
-    ensures marks { OnOk result (files.new.items ≡ take (common last.now path.now + 1) files.old.items ++ replicate (length path.now - common last.now path.now) false) }
+    ensures marks { OnOk result (files.new.items
+        ≡ take (common last.now path.now + 1) files.old.items ++ replicate (length path.now - common last.now path.now) false) }
     ensures len { OnOk result (length files.new.items ≡ length path.now + 1) }
 {
     files.truncate(common_len(last, path) + 1);

@@ -1,13 +1,14 @@
--- A search from a commit marks exactly its ancestors.
-use Rattle.std.proofs.Common.{◌≡◌, ◌≢◌, ◌⊎◌, inl, inr, ℕ, zero, suc, ◌<◌, ◌≤◌, Bool, true, false, cond, eqb, List, length, get_or, replicate, Option, Some, None, Contains, is_some, refl, sym, ap, subst, ◌∙◌, arith, get_or-set_same}
+-- A search from some commits marks exactly these and their ancestors.
+use Rattle.std.proofs.Common.{◌≡◌, ◌≢◌, ◌⊎◌, inl, inr, ℕ, zero, suc, ◌<◌, ◌≤◌, Bool, true, false, cond, eqb, List, [], ◌∷◌, length, get_or, replicate, Option, Some, None, Contains, is_some, refl, sym, ap, subst, ◌∙◌, arith}
 use Rattle.std.proofs.lemmas.Bool.Decides.{Decides-eqb}
 use Rattle.std.proofs.lemmas.List.{get_or_default, length-replicate}
 use Rattle.merge_base.specs.declared.graph.Node.{Node}
 use Rattle.merge_base.specs.Graphs.{ParentsFirst, has, place_from}
 use Rattle.merge_base.specs.Bases.{Ancestors, itself, parent_of}
-use Rattle.merge_base.specs.Marks.{MarkAncestors, id_at, is_marked, mark, mark_each, mark_older, nobody, parents_at}
+use Rattle.merge_base.specs.Ranges.{Reached}
+use Rattle.merge_base.specs.Marks.{MarkAncestors, MarkReached, id_at, is_marked, mark_each, mark_older, nobody, parents_at}
 use Rattle.merge_base.proofs.Places.{place_has}
-use Rattle.merge_base.proofs.Marking.{MarkedBy, id_placed, length_mark, length_mark_each, mark_each_keeps, mark_each_marks, mark_each_only, mark_only, parent_before, place_at}
+use Rattle.merge_base.proofs.Marking.{MarkedBy, id_placed, length_mark_each, mark_each_keeps, mark_each_marks, mark_each_only, parent_before, place_at}
 
 -- the parents of the marked commits from a place on are marked
 record IsClosed (graph : List Node) (from : ℕ) (marks : List Bool) : Type 0 where
@@ -107,42 +108,60 @@ unmarked zero k e = cc
 unmarked (suc n) zero e = cc
 unmarked (suc n) (suc k) e = unmarked n k e
 
-begun_only : (graph : List Node) (commit : List ℕ) (start : ℕ) → place_from 0 graph commit ≡ Some start → (k : ℕ) → is_marked (mark (replicate (length graph) false) (Some start)) k ≡ true → Ancestors graph commit (id_at graph k)
-begun_only graph commit start is k e = at (mark_only (replicate (length graph) false) (Some start) k e)
+begun_only : (graph : List Node) (tips : List (List ℕ)) (k : ℕ) → is_marked (mark_each graph tips (replicate (length graph) false)) k ≡ true → Reached graph tips (id_at graph k)
+begun_only graph tips k e = at (mark_each_only graph tips (replicate (length graph) false) k e)
   where
-    at : (is_marked (replicate (length graph) false) k ≡ true) ⊎ (Some start ≡ Some k) → Ancestors graph commit (id_at graph k)
+    at : (is_marked (replicate (length graph) false) k ≡ true) ⊎ MarkedBy graph tips k → Reached graph tips (id_at graph k)
     at (inl was) = absurd (unmarked (length graph) k was)
-    at (inr p) =
-        let same : start ≡ k = cc in
-        subst (λ (i : ℕ). Ancestors graph commit (id_at graph i)) same (subst (Ancestors graph commit) (sym (id_placed graph commit start is).1) itself)
+    at (inr by) = record { tip = by.id; among = by.among; above = subst (Ancestors graph by.id) (sym (id_placed graph by.id k by.placed_is).1) itself }
 
-from_start : (graph : List Node) (commit : List ℕ) (start : ℕ) → ParentsFirst graph → place_from 0 graph commit ≡ Some start → MarkAncestors graph commit (mark_older graph (length graph) (mark (replicate (length graph) false) (Some start)))
-from_start graph commit start first is =
-    let in' = (id_placed graph commit start is).0 in
-    let blank : length (replicate (length graph) false) ≡ length graph = length-replicate (length graph) false in
-    let begun = mark (replicate (length graph) false) (Some start) in
-    let len : length begun ≡ length graph = length_mark (replicate (length graph) false) (Some start) ∙ blank in
-    let here : is_marked begun start ≡ true = get_or-set_same (replicate (length graph) false) start true false (omega arith) in
+reached_step : (graph : List Node) (tips : List (List ℕ)) (k j : ℕ) (id : List ℕ) → k < length graph → Reached graph tips (id_at graph k) → Contains (parents_at graph k) id → place_from 0 graph id ≡ Some j → Reached graph tips (id_at graph j)
+reached_step graph tips k j id l r c p = record { tip = r.tip; among = r.among; above = ancestor_step graph r.tip k j id l r.above c p }
+
+-- what reaches a commit of the graph is in it
+tip_placed : (graph : List Node) (tip : List ℕ) → ParentsFirst graph → (id : List ℕ) → Ancestors graph tip id → (k : ℕ) → place_from 0 graph id ≡ Some k → (p : ℕ) × (place_from 0 graph tip ≡ Some p)
+tip_placed graph tip first _ itself k e = (k, e)
+tip_placed graph tip first _ (parent_of node id inside above parent) k e =
+    let m = inside.0 in
+    let in' : m < length graph = inside.1 in
+    let node_is : get_or graph m nobody ≡ node = get_or_default graph m nobody node in' ∙ inside.2 in
+    tip_placed graph tip first node.id above m (ap (λ (n : Node). place_from 0 graph n.id) (sym node_is) ∙ place_at graph m first in')
+
+pub reached_marked : (graph : List Node) (tips : List (List ℕ)) → ParentsFirst graph → MarkReached graph tips (mark_older graph (length graph) (mark_each graph tips (replicate (length graph) false)))
+reached_marked graph tips first =
+    let blank = replicate (length graph) false in
+    let begun = mark_each graph tips blank in
+    let long : length blank ≡ length graph = length-replicate (length graph) false in
+    let len : length begun ≡ length graph = length_mark_each graph tips blank ∙ long in
     let after = mark_older graph (length graph) begun in
     let o = older graph (length graph) begun first (omega arith) len (record { closed = λ k j id at l e c p. absurd (omega arith) }) in
+    let start : (tip : List ℕ) → Contains tips tip → (p : ℕ) → place_from 0 graph tip ≡ Some p → IsReached graph after tip = λ tip c p e.
+    let in' = (id_placed graph tip p e).0 in
+    record { at = p; is = e; marked = o.keeps p in' (mark_each_marks graph tips blank p tip (omega (arith, long)) c e) } in
     record {
       length_is = o.length_is;
       each = λ place l. (
-        λ m. older_only graph (λ k. Ancestors graph commit (id_at graph k)) (ancestor_step graph commit) (length graph) (omega arith) begun (begun_only graph commit start is) place m,
-        λ a.
-            let r = reached graph after commit first o.closed (record { at = start; is = is; marked = o.keeps start in' here }) (id_at graph place) a in
-            let same : Some r.at ≡ Some place = sym r.is ∙ place_at graph place first l in
-            let at_is : r.at ≡ place = cc in
-            subst (λ (i : ℕ). is_marked after i ≡ true) at_is r.marked,
+        λ m. older_only graph (λ k. Reached graph tips (id_at graph k)) (reached_step graph tips) (length graph) (omega arith) begun (begun_only graph tips) place m,
+        λ r.
+            let p = tip_placed graph r.tip first (id_at graph place) r.above place (place_at graph place first l) in
+            let got = reached graph after r.tip first o.closed (start r.tip r.among p.0 p.1) (id_at graph place) r.above in
+            let same : Some got.at ≡ Some place = sym got.is ∙ place_at graph place first l in
+            let at_is : got.at ≡ place = cc in
+            subst (λ (i : ℕ). is_marked after i ≡ true) at_is got.marked,
       );
     }
 
-pub ancestors_marked : (graph : List Node) (commit : List ℕ) → ParentsFirst graph → has graph commit ≡ true → MarkAncestors graph commit (mark_older graph (length graph) (mark (replicate (length graph) false) (place_from 0 graph commit)))
-ancestors_marked graph commit first there = at (place_from 0 graph commit) refl
+-- ---- one commit
+
+pub of_one : (graph : List Node) (commit : List ℕ) (marks : List Bool) → MarkReached graph (commit ∷ []) marks → MarkAncestors graph commit marks
+of_one graph commit marks m = record { length_is = m.length_is; each = λ place l. (λ e. from ((m.each place l).0 e), λ a. (m.each place l).1 (record { tip = commit; among = (0, omega arith, refl); above = a })) }
   where
-    at : (p : Option ℕ) → place_from 0 graph commit ≡ p → MarkAncestors graph commit (mark_older graph (length graph) (mark (replicate (length graph) false) p))
-    at None e = let h = place_has 0 graph commit in let none : is_some (place_from 0 graph commit) ≡ false = ap is_some e in absurd cc
-    at (Some start) e = from_start graph commit start first e
+    only : (tip : List ℕ) (i : ℕ) → i < 1 → get_or (commit ∷ []) i tip ≡ tip → commit ≡ tip
+    only tip zero l e = e
+    only tip (suc i) l e = absurd (omega arith)
+
+    from : {id : List ℕ} → Reached graph (commit ∷ []) id → Ancestors graph commit id
+    from {id} r = subst (λ (c : List ℕ). Ancestors graph c id) (sym (only r.tip r.among.0 r.among.1 r.among.2)) r.above
 
 -- the place of a commit that is an ancestor is marked
 pub marked_ancestor : (graph : List Node) (commit : List ℕ) (marks : List Bool) → ParentsFirst graph → MarkAncestors graph commit marks → (id : List ℕ) (k : ℕ) → place_from 0 graph id ≡ Some k → Ancestors graph commit id → is_marked marks k ≡ true

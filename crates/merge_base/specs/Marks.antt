@@ -3,6 +3,7 @@ use Rattle.std.specs.Prelude.{◌≡◌, ℕ, zero, suc, ◌<◌, ◌↔◌, Boo
 use Rattle.merge_base.specs.declared.graph.Node.{Node}
 use Rattle.merge_base.specs.Graphs.{place_from}
 use Rattle.merge_base.specs.Bases.{Ancestors}
+use Rattle.merge_base.specs.Ranges.{Reached}
 
 -- what stands past the end of a graph
 abbrev pub nobody : Node
@@ -52,3 +53,8 @@ left_of_both graph ones others without (suc place) = if are_both_marked ones oth
 pub record MarkAncestors (graph : List Node) (commit : List ℕ) (marks : List Bool) : Type 0 where
   pub length_is : length marks ≡ length graph
   pub each : (place : ℕ) → place < length graph → (is_marked marks place ≡ true) ↔ Ancestors graph commit (id_at graph place)
+
+-- exactly the commits that some tips reach are marked
+pub record MarkReached (graph : List Node) (tips : List (List ℕ)) (marks : List Bool) : Type 0 where
+  pub length_is : length marks ≡ length graph
+  pub each : (place : ℕ) → place < length graph → (is_marked marks place ≡ true) ↔ Reached graph tips (id_at graph place)

@@ -116,8 +116,8 @@ impl Graph {
         &self.nodes
     }
 
-    /// The place of the commit with this id.
-    pub(crate) fn place_of(&self, id: &Id) -> Option<usize>
+    /// The place of the commit with this id, counted from 0 in the order in which they were added, and None exactly where there is none.
+    pub fn place_of(&self, id: &Id) -> Option<usize>
         ensures place { result ≡ place_from 0 self.now id.now }
         ensures within { IfSome result (λ place. place < length self.now) }
     {
@@ -145,7 +145,8 @@ impl Graph {
         self.place_of(id).is_some()
     }
 
-    fn missing(&self, ids: &[Id]) -> Option<Id>
+    /// The first of some ids that no commit has.
+    pub fn missing(&self, ids: &[Id]) -> Option<Id>
         ensures { result ≡ first_missing self.now ids.now }
     {
         for id in ids {

@@ -7,4 +7,4 @@ mod search;
 
 pub use graph::{Graph, GraphFault, Node};
 pub use ids::Ids;
-pub use search::{bases, is_ancestor};
+pub use search::{ancestors, bases, is_ancestor};

@@ -1,16 +1,26 @@
 //! Searches from commits to their ancestors.
 
-ghost use Rattle.std.specs.Prelude.{◌≡◌, ◌<◌, ◌↔◌, IfOk, IsTrue, false, length, replicate};
+ghost use Rattle.std.specs.Prelude.{◌≡◌, ◌↔◌, IfOk, IsTrue, false, length, replicate};
 ghost use Rattle.std.specs.Cmp.Lexicographic.{slice_cmp};
 ghost use Rattle.std.specs.List.Sorted.{IsPermutation, IsSorted};
 ghost use Rattle.std.specs.Ordering.{nat_cmp};
-ghost use Rattle.merge_base.specs.Graphs.{ParentsFirst, has, place_from};
+ghost use Rattle.merge_base.specs.Graphs.{ParentsFirst, has};
 ghost use Rattle.merge_base.specs.Bases.{Ancestors, AreBases};
-ghost use Rattle.merge_base.specs.Marks.{MarkAncestors, left_of_both, mark, mark_each, mark_older, parents_at, parents_of_both};
+ghost use Rattle.merge_base.specs.Marks.{MarkAncestors, MarkReached, left_of_both, mark_each, mark_older, parents_of_both};
 
 use crate::graph::Graph;
 use seq_base::Id;
 use std::alloc::{AllocError, Global};
+
+/// A mark for each commit, in the order in which they were added: whether it is one of these commits or an ancestor of one
+/// (git-rev-list(1), "reachable"). An id that no commit has reaches none.
+pub fn ancestors(alloc: Global, graph: &Graph, ids: &[Id]) -> Result<Vec<bool>, AllocError>
+    ensures { IfOk result (λ marks. MarkReached graph.now ids.now marks.items) }
+{
+    let mut marks = marked(alloc, graph, ids)?;
+    mark_ancestors(graph, &mut marks);
+    Ok(marks)
+}
 
 /// Whether a commit is another or one of its ancestors (git-merge-base(1), "--is-ancestor").
 pub fn is_ancestor(alloc: Global, graph: &Graph, a: Id, b: Id) -> Result<bool, AllocError>
@@ -18,7 +28,7 @@ pub fn is_ancestor(alloc: Global, graph: &Graph, a: Id, b: Id) -> Result<bool, A
     requires b { IsTrue (has graph.now b) }
     ensures { IfOk result (λ is. IsTrue is ↔ Ancestors graph.now b a) }
 {
-    let marks = ancestors(alloc, graph, &b)?;
+    let marks = ancestors_of(alloc, graph, b)?;
     match graph.place_of(&a) {
         Some(place) => Ok(marks[place]),
         None => unreachable!(),
@@ -31,8 +41,8 @@ pub fn bases(alloc: Global, graph: &Graph, a: Id, b: Id) -> Result<Vec<Id>, Allo
     requires b { IsTrue (has graph.now b) }
     ensures { IfOk result (λ ids. AreBases graph.now a b ids.items) }
 {
-    let of_a = ancestors(alloc, graph, &a)?;
-    let of_b = ancestors(alloc, graph, &b)?;
+    let of_a = ancestors_of(alloc, graph, a)?;
+    let of_b = ancestors_of(alloc, graph, b)?;
     let above = parents_of_common(alloc, graph, &of_a, &of_b)?;
     in_order(best(alloc, graph, &of_a, &of_b, &above)?)
 }
@@ -46,23 +56,20 @@ fn in_order(mut ids: Vec<Id>) -> Result<Vec<Id>, AllocError>
 }
 
 /// A mark for each commit that is this one or an ancestor of it.
-fn ancestors(alloc: Global, graph: &Graph, id: &Id) -> Result<Vec<bool>, AllocError>
-    requires { IsTrue (has graph.now id.now) }
-    ensures { IfOk result (λ marks. MarkAncestors graph.now id.now marks.items) }
+fn ancestors_of(alloc: Global, graph: &Graph, id: Id) -> Result<Vec<bool>, AllocError>
+    requires { IsTrue (has graph.now id) }
+    ensures { IfOk result (λ marks. MarkAncestors graph.now id marks.items) }
 {
-    let mut marks = marked(alloc, graph, id)?;
-    mark_ancestors(graph, &mut marks);
-    Ok(marks)
+    ancestors(alloc, graph, &[id])
 }
 
-/// A mark for each commit, set for this one alone.
-fn marked(alloc: Global, graph: &Graph, id: &Id) -> Result<Vec<bool>, AllocError>
-    ensures { IfOk result (λ marks. marks.items ≡ mark (replicate (length graph.now) false) (place_from 0 graph.now id.now)) }
+/// A mark for each commit, set for these alone.
+fn marked(alloc: Global, graph: &Graph, ids: &[Id]) -> Result<Vec<bool>, AllocError>
+    ensures marks { IfOk result (λ marks. marks.items ≡ mark_each graph.now ids.now (replicate (length graph.now) false)) }
+    ensures length { IfOk result (λ marks. length marks.items ≡ length graph.now) }
 {
     let mut marks = vec![in alloc; false; graph.nodes().len()]?;
-    if let Some(place) = graph.place_of(id) {
-        marks[place] = true;
-    }
+    mark_each(graph, ids, &mut marks);
     Ok(marks)
 }
 
@@ -76,7 +83,7 @@ fn mark_ancestors(graph: &Graph, marks: &mut [bool])
     while place > 0 {
         place -= 1;
         if marks[place] {
-            mark_parents(graph, place, marks);
+            mark_each(graph, graph.parents_at(place), marks);
         }
     }
 }
@@ -98,7 +105,7 @@ fn parents_of_common(
     let mut marks = vec![in alloc; false; count]?;
     for place in 0..count {
         if of_a[place] && of_b[place] {
-            mark_parents(graph, place, &mut marks);
+            mark_each(graph, graph.parents_at(place), &mut marks);
         }
     }
     Ok(marks)
@@ -126,12 +133,12 @@ fn best(
     Ok(ids)
 }
 
-fn mark_parents(graph: &Graph, place: usize, marks: &mut [bool])
-    requires within { place < length graph.now }
-    requires length { length marks.old ≡ length graph.now }
-    ensures { marks.new ≡ mark_each graph.now (parents_at graph.now place) marks.old }
+/// Marks the commits with these ids.
+fn mark_each(graph: &Graph, ids: &[Id], marks: &mut [bool])
+    requires { length marks.old ≡ length graph.now }
+    ensures { marks.new ≡ mark_each graph.now ids.now marks.old }
 {
-    for id in graph.parents_at(place) {
+    for id in ids {
         if let Some(found) = graph.place_of(id) {
             marks[found] = true;
         }

@@ -42,10 +42,10 @@ module _ (p : ℕ → Bool) (set : List ℕ) (same : (b : ℕ) → is_in set b �
   inside : (b : ℕ) → ¬ (not_in set b ≡ true) → p b ≡ true
   inside b h = sym (same b) ∙ not_turned (is_in set b) h
 
-  none_outside : (xs : List ℕ) → IsLastByte (not_in set) xs None → without_end p xs ≡ []
+  pub none_outside : (xs : List ℕ) → IsLastByte (not_in set) xs None → without_end p xs ≡ []
   none_outside xs h = nothing_left p xs (all_pass p xs (λ k l. inside _ (h k (omega arith) l)))
 
-  last_outside : (xs : List ℕ) (last : ℕ) → IsLastByte (not_in set) xs (Some last) → without_end p xs ≡ take (last + 1) xs
+  pub last_outside : (xs : List ℕ) (last : ℕ) → IsLastByte (not_in set) xs (Some last) → without_end p xs ≡ take (last + 1) xs
   last_outside xs last h =
       let within = h.0.high in
       let after = h.0.after in

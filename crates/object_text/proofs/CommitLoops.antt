@@ -1,51 +1,17 @@
 -- The loops over the headers and the parents of a commit.
-use Rattle.std.proofs.Common.{◌≡◌, ℕ, ◌<◌, Bool, true, false, cond, List, [], ◌∷◌, ◌++◌, length, drop, Option, Some, None, Result, Ok, Err, refl, sym, ap, ◌∙◌, append_assoc}
-use Rattle.std.specs.Prelude.{codes}
-use Rattle.std.specs.List.{starts_with}
-use Rattle.std.proofs.Common.{eqb}
+use Rattle.std.proofs.Common.{◌≡◌, ℕ, ◌<◌, Bool, true, false, cond, List, [], ◌∷◌, ◌++◌, length, Option, Some, None, Result, Ok, Err, refl, sym, ap, ◌∙◌}
 use Rattle.std.proofs.lemmas.List.{append-nil}
 use Rattle.grammar.specs.Gives.{Fails}
 use Rattle.grammar.specs.Readers.{◌>>=◌, star_at, begins, literal_at, with_none}
 use Rattle.grammar.specs.declared.fault.ReadError.{ReadError}
 use Rattle.grammar.specs.declared.fault.ReadError.TheVariants as errors
-use Rattle.grammar.proofs.StarLoops.{Loop, loop_none, loop_more, loop_err, loop_last, with_front}
+use Rattle.grammar.proofs.StarLoops.{Loop, loop_more, loop_err, loop_last, with_front}
 use Rattle.object_text.specs.declared.commit.Commit.{Commit}
-use Rattle.object_text.specs.Commits.{is_in_line, is_continuation, continued, encoding_of}
+use Rattle.object_text.specs.Commits.{is_in_line, encoding_of}
 use Rattle.object_text.specs.ReadCommits.{header_from, message_from, has_header, headers_from, tail_from, is_p, added, parent_line_from, people_from, parents_from, Takes}
 use Rattle.object_text.proofs.CommitLaws.{Header, Message, headers_star, ParentLine, People, parents_star}
 
 -- ---- the encoding, a line at a time
-
--- a line behind others stands before those that follow
-one_more : (lines : List (List ℕ)) (x : List ℕ) (more : List (List ℕ)) → encoding_of ((lines ++ x ∷ []) ++ more) ≡ encoding_of (lines ++ x ∷ more)
-one_more lines x more = ap encoding_of (append_assoc lines (x ∷ []) more)
-
-pub takes_none : Takes false false [] []
-takes_none = record { empty = λ _. refl; whole = λ more. refl }
-
-pub takes_other : (lasts : Bool) (value : List ℕ) (lines : List (List ℕ)) (x : List ℕ) → starts_with eqb x (codes "encoding ") ≡ false → Takes false lasts value lines → Takes false lasts value (lines ++ x ∷ [])
-takes_other lasts value lines x off t = record { empty = t.empty; whole = λ more. one_more lines x more ∙ t.whole (x ∷ more) ∙ rw off refl }
-
-pub takes_first : (lasts : Bool) (value : List ℕ) (lines : List (List ℕ)) (x : List ℕ) → starts_with eqb x (codes "encoding ") ≡ true → Takes false lasts value lines → Takes true true (value ++ drop 9 x) (lines ++ x ∷ [])
-takes_first lasts value lines x on t = record {
-  empty = λ e. absurd cc;
-  whole = λ more. one_more lines x more ∙ t.whole (x ∷ more) ∙ rw on (ap (λ (v : List ℕ). Some ((v ++ drop 9 x) ++ continued more)) (sym (t.empty refl)));
-}
-
-pub takes_more : (value : List ℕ) (lines : List (List ℕ)) (x : List ℕ) → is_continuation x ≡ true → Takes true true value lines → Takes true true ((value ++ 10 ∷ []) ++ x) (lines ++ x ∷ [])
-takes_more value lines x on t = record {
-  empty = λ e. absurd cc;
-  whole = λ more. one_more lines x more ∙ t.whole (x ∷ more) ∙ rw on (ap (λ (v : List ℕ). Some v) (regroup value x (continued more)));
-}
-  where
-    regroup : (a b c : List ℕ) → a ++ 10 ∷ (b ++ c) ≡ ((a ++ 10 ∷ []) ++ b) ++ c
-    regroup a b c = simp append_assoc
-
-pub takes_end : (value : List ℕ) (lines : List (List ℕ)) (x : List ℕ) → is_continuation x ≡ false → Takes true true value lines → Takes true false value (lines ++ x ∷ [])
-takes_end value lines x off t = record { empty = λ e. absurd cc; whole = λ more. one_more lines x more ∙ t.whole (x ∷ more) ∙ rw off refl }
-
-pub takes_past : (value : List ℕ) (lines : List (List ℕ)) (x : List ℕ) → Takes true false value lines → Takes true false value (lines ++ x ∷ [])
-takes_past value lines x t = record { empty = λ e. absurd cc; whole = λ more. one_more lines x more ∙ t.whole (x ∷ more) }
 
 pub takes_all : (found lasts : Bool) (value : List ℕ) (lines : List (List ℕ)) → Takes found lasts value lines → encoding_of lines ≡ cond found (Some value) None
 takes_all found lasts value lines t = ap encoding_of (sym (append-nil lines)) ∙ t.whole [] ∙ at found lasts
@@ -61,9 +27,6 @@ takes_all found lasts value lines t = ap encoding_of (sym (append-nil lines)) �
 abbrev pub HeadersLoop : List ℕ → List (List ℕ) → Bool → List ℕ → Type 0
 HeadersLoop bytes lines behind rest = Loop (λ s. Unit {0}) is_in_line has_header Header (λ s. Message) header_from (λ s rest. message_from rest) headers_star
     (star_at is_in_line has_header header_from (λ s rest. message_from rest) (length bytes) false bytes) lines behind rest
-
-pub headers_none : (bytes : List ℕ) → HeadersLoop bytes [] false bytes
-headers_none bytes = loop_none (λ s. Unit {0}) is_in_line has_header Header (λ s. Message) header_from (λ s rest. message_from rest) headers_star false bytes tt
 
 pub header_more : (bytes : List ℕ) (lines : List (List ℕ)) (behind : Bool) (rest x after : List ℕ) → begins is_in_line rest ≡ true → header_from behind rest ≡ Ok (x, after) → HeadersLoop bytes lines behind rest
     → HeadersLoop bytes (lines ++ x ∷ []) true after × (length after < length rest)
@@ -121,9 +84,6 @@ tail_fails bytes lines behind rest (errors.Stopped n) off l e = headers_last byt
 abbrev pub ParentsLoop : List ℕ → List ℕ → List (List ℕ) → List ℕ → Type 0
 ParentsLoop tree bytes ids rest = Loop (λ s. Unit {0}) is_p added (λ s. ParentLine) (People tree) (λ s. parent_line_from) (people_from tree) (parents_star tree)
     (star_at is_p added (λ s. parent_line_from) (people_from tree) (length bytes) [] bytes) ids ids rest
-
-pub parents_none : (tree bytes : List ℕ) → ParentsLoop tree bytes [] bytes
-parents_none tree bytes = loop_none (λ s. Unit {0}) is_p added (λ s. ParentLine) (People tree) (λ s. parent_line_from) (people_from tree) (parents_star tree) [] bytes tt
 
 pub parent_more : (tree bytes : List ℕ) (ids : List (List ℕ)) (rest x after : List ℕ) → begins is_p rest ≡ true → parent_line_from rest ≡ Ok (x, after) → ParentsLoop tree bytes ids rest → ParentsLoop tree bytes (ids ++ x ∷ []) after × (length after < length rest)
 parent_more tree bytes ids rest x after on e l = loop_more (λ s. Unit {0}) is_p added (λ s. ParentLine) (People tree) (λ s. parent_line_from) (people_from tree) (parents_star tree) _ ids ids rest x after on e l

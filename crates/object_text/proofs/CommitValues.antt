@@ -238,3 +238,5 @@ author_reads c value = reads_as c.author value.author
 
 pub committer_reads : (c : Commit) → IsCommitValue c → ReadsAsIdent c.committer
 committer_reads c value = reads_as c.committer value.committer
+
+pub ruleset author_laws = (author_reads, committer_reads, by_author)

@@ -341,15 +341,6 @@ pub record Looking (total : Bool) (w : List ℕ) (earlier : List TreeEntry) : Ty
 pub look_first : (earlier : List TreeEntry) (w : List ℕ) → IsTreeSoFar earlier → is_less (last_key earlier) (w ++ 47 ∷ []) ≡ true → Looking (is_new earlier w) w earlier
 look_first earlier w good less = record { same = refl; good = good; below = all_below earlier (w ++ 47 ∷ []) good (sym (less_is (last_key earlier) (w ++ 47 ∷ [])) ∙ less) }
 
-pub look_found : (total : Bool) (w : List ℕ) (e : TreeEntry) (es : List TreeEntry) → bytes_eq e.name w ≡ true → Looking total w (e ∷ es) → false ≡ total
-look_found total w e es on l = (rw on refl) ∙ l.same
-
-pub look_on : (total : Bool) (w : List ℕ) (e : TreeEntry) (es : List TreeEntry) → bytes_eq e.name w ≡ false → Looking total w (e ∷ es) → Looking total w es
-look_on total w e es off l = record { same = (rw off refl) ∙ l.same; good = l.good.2; below = l.below.1 }
-
-pub look_none : (total : Bool) (w : List ℕ) → Looking total w [] → true ≡ total
-look_none total w l = l.same
-
 -- where a name does not begin with it, no earlier one is it
 pub look_past : (total : Bool) (w : List ℕ) (e : TreeEntry) (es : List TreeEntry) → bytes_eq e.name w ≡ false → starts_with eqb e.name w ≡ false → Looking total w (e ∷ es) → true ≡ total
 look_past total w e es off past l = sym (both_true (not (bytes_eq e.name w)) (is_new es w) (rw off refl) (none es l.good.1 l.below.1)) ∙ l.same

@@ -1,19 +1,20 @@
 -- What a reader answers where bytes spell nothing.
-use Rattle.std.specs.Prelude.{◌≡◌, ℕ, ◌<◌, List, length}
+use Rattle.std.specs.Prelude.{◌≡◌, ◌<◌, length}
 use Rattle.grammar.specs.Grammar.{IsFirstBad}
+use Rattle.seq_base.specs.Words.{Text}
 use Rattle.object_text.specs.declared.commit.Commit.{Commit}
 use Rattle.object_text.specs.declared.fault.TextFault.{TextFault}
 use Rattle.object_text.specs.declared.fault.TextFault.TheVariants.{Bad, Parents, Memory}
 use Rattle.object_text.specs.Commits.{IsCommit}
 
 -- the first bad byte, or want of memory
-abbrev pub IsTextFault : {X : Type 0} → (X → List ℕ → Type 0) → List ℕ → TextFault → Type 0
+abbrev pub IsTextFault : {X : Type 0} → (X → Text → Type 0) → Text → TextFault → Type 0
 IsTextFault spells bytes (Bad at) = IsFirstBad spells bytes at
 IsTextFault spells bytes (Parents count) = ⊥
 IsTextFault spells bytes Memory = Unit {0}
 
 -- the first bad byte, or that the bytes are a commit's that has more than 16 parents, or want of memory
-abbrev pub IsCommitFault : List ℕ → TextFault → Type 0
+abbrev pub IsCommitFault : Text → TextFault → Type 0
 IsCommitFault bytes (Bad at) = IsFirstBad IsCommit bytes at
 IsCommitFault bytes (Parents count) = (c : Commit) × IsCommit c bytes × (length c.parents ≡ count) × (16 < count)
 IsCommitFault bytes Memory = Unit {0}

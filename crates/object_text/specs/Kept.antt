@@ -1,6 +1,7 @@
 -- What a store keeps, in the words of the formats (gitrepository-layout(5), "objects/[0-9a-f][0-9a-f]"; git-hash-object(1)).
 use Rattle.std.specs.Prelude.{◌≡◌, ◌≤◌, ◌⊎◌, ℕ, zero, suc, List, length, Some}
 use Rattle.std.specs.FinMap as map
+use Rattle.seq_base.specs.Words.{Id, Text}
 use Rattle.sha1.specs.Sha1.{sha1}
 use Rattle.seq_base.specs.World.{World}
 use Rattle.seq_base.specs.Repository.{object_path}
@@ -16,34 +17,34 @@ use Rattle.object_text.specs.Tags.{IsTag}
 use Rattle.object_text.specs.Store.{content_limit}
 
 -- the file of an id has the text of this object, which is not too large, and whose SHA-1 is the id
-pub record KeepsObject (w : World) (id : List ℕ) (o : Object) : Type 0 where
-  pub text : List ℕ
+pub record KeepsObject (w : World) (id : Id) (o : Object) : Type 0 where
+  pub text : Text
   pub file : map.get w (object_path id) ≡ Some text
   pub spelled : IsObject o text
   pub within : length o.bytes ≤ content_limit
   pub hash : sha1 text ≡ id
 
 -- an object of this kind, whose content spells x
-pub record Keeps {X : Type 0} (kind : Kind) (spells : X → List ℕ → Type 0) (w : World) (id : List ℕ) (x : X) : Type 0 where
-  pub content : List ℕ
+pub record Keeps {X : Type 0} (kind : Kind) (spells : X → Text → Type 0) (w : World) (id : Id) (x : X) : Type 0 where
+  pub content : Text
   pub object : KeepsObject w id (record { kind = kind; bytes = content })
   pub spelled : spells x content
 
-abbrev pub KeepsTree : World → List ℕ → List TreeEntry → Type 0
+abbrev pub KeepsTree : World → Id → List TreeEntry → Type 0
 KeepsTree = Keeps Tree IsTree
 
-abbrev pub KeepsCommit : World → List ℕ → CommitFields → Type 0
+abbrev pub KeepsCommit : World → Id → CommitFields → Type 0
 KeepsCommit = Keeps Commit IsCommit
 
 -- a tag that names the object of the other id
-abbrev pub KeepsTag : World → List ℕ → List ℕ → Type 0
+abbrev pub KeepsTag : World → Id → Id → Type 0
 KeepsTag = Keeps Tag IsTag
 
 -- a commit, or a tag that leads to it, through at most so many tags
-unfoldable pub LeadsToCommit : ℕ → World → List ℕ → CommitFields → Type 0
+unfoldable pub LeadsToCommit : ℕ → World → Id → CommitFields → Type 0
 LeadsToCommit zero w id c = KeepsCommit w id c
-LeadsToCommit (suc n) w id c = KeepsCommit w id c ⊎ ((named : List ℕ) × KeepsTag w id named × LeadsToCommit n w named c)
+LeadsToCommit (suc n) w id c = KeepsCommit w id c ⊎ ((named : Id) × KeepsTag w id named × LeadsToCommit n w named c)
 
 -- each file of an object stays as it is
 abbrev pub ObjectsStay : World → World → Type 0
-ObjectsStay old new = (id text : List ℕ) → map.get old (object_path id) ≡ Some text → map.get new (object_path id) ≡ Some text
+ObjectsStay old new = (id : Id) (text : Text) → map.get old (object_path id) ≡ Some text → map.get new (object_path id) ≡ Some text

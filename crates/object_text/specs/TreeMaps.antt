@@ -3,7 +3,9 @@ use Rattle.std.specs.Prelude.{ℕ, zero, suc, Bool, true, false, ◌&&◌, ◌==
 use Rattle.std.specs.List.{list_all, list_any}
 use Rattle.std.specs.Str.{bytes_eq}
 use Rattle.std.specs.Str.Lossy.{utf8_valid_len}
+use Rattle.seq_base.specs.Words.{Id, Name, Path, Text}
 use Rattle.seq_base.specs.Paths.{parts}
+use Rattle.seq_base.specs.PathMaps.{Entries}
 use Rattle.seq_base.specs.World.{World}
 use Rattle.seq_base.specs.declared.mode.Mode.{Mode}
 use Rattle.seq_base.specs.declared.mode.Mode.TheVariants.{File, Exec, Link, Gitlink, Folder}
@@ -16,7 +18,7 @@ use Rattle.object_text.specs.Store.{Put, content_limit, object_id, put_object, t
 
 -- why a tree has no map: a tree that cannot be read or holds a path that is none, or one that lies too deep
 pub data MapFault : Type 0 where
-  BadTree : List ℕ → MapFault
+  BadTree : Id → MapFault
   TooDeep : MapFault
 
 infixl 10 ◌>>=◌
@@ -32,16 +34,16 @@ is_folder Link = false
 is_folder Gitlink = false
 
 -- a path below a folder; the root has the empty one
-abbrev pub below : List ℕ → List ℕ → List ℕ
+abbrev pub below : Path → Name → Path
 below [] name = name
 below (b ∷ folder) name = (b ∷ folder) ++ 47 ∷ [] ++ name
 
 -- a path whose parts are valid is one where it is text, and not too long
-abbrev pub is_path_text : List ℕ → Bool
+abbrev pub is_path_text : Text → Bool
 is_path_text path = nat_le (length path) 4095 && utf8_valid_len path == length path
 
 -- what entries have at the paths below a folder, where inside gives that of a tree
-unfoldable pub entries_map : (List ℕ → List ℕ → Result (List (List ℕ × Entry)) MapFault) → List ℕ → List TreeEntry → Result (List (List ℕ × Entry)) MapFault
+unfoldable pub entries_map : (Path → Id → Result Entries MapFault) → Path → List TreeEntry → Result Entries MapFault
 entries_map inside folder [] = Ok []
 entries_map inside folder (e ∷ es) = do
   first ← (if is_folder e.mode then inside (below folder e.name) e.id else Ok ((below folder e.name, record { mode = e.mode; id = e.id }) ∷ []))
@@ -49,17 +51,17 @@ entries_map inside folder (e ∷ es) = do
   Ok (first ++ others)
 
 -- what the tree of an id has, by what the world has
-abbrev pub opened : (List ℕ → List ℕ → Result (List (List ℕ × Entry)) MapFault) → List ℕ → List ℕ → Option (List TreeEntry) → Result (List (List ℕ × Entry)) MapFault
+abbrev pub opened : (Path → Id → Result Entries MapFault) → Path → Id → Option (List TreeEntry) → Result Entries MapFault
 opened inside folder id None = Err (BadTree id)
 opened inside folder id (Some es) = if list_all (λ e. is_path_text (below folder e.name)) es then entries_map inside folder es else Err (BadTree id)
 
 -- what the tree of an id has, no more than so many trees deep
-unfoldable pub map_below : ℕ → World → List ℕ → List ℕ → Result (List (List ℕ × Entry)) MapFault
+unfoldable pub map_below : ℕ → World → Path → Id → Result Entries MapFault
 map_below zero w folder id = Err TooDeep
 map_below (suc n) w folder id = opened (map_below n w) folder id (tree_at w id)
 
 -- the map of a tree, in the order of its paths, or the first fault, a tree before its subtrees
-unfoldable pub map_at : World → List ℕ → Result (List (List ℕ × Entry)) MapFault
+unfoldable pub map_at : World → Id → Result Entries MapFault
 map_at w id = map_below 256 w [] id
 
 -- ---- the trees of a map
@@ -68,30 +70,30 @@ map_at w id = map_below 256 w [] id
 abbrev pub tree_object : List TreeEntry → Object
 tree_object es = record { kind = Tree; bytes = tree_text es }
 
-abbrev pub tree_id : List TreeEntry → List ℕ
+abbrev pub tree_id : List TreeEntry → Id
 tree_id es = object_id (tree_object es)
 
 -- what a folder lists, in order: a file or a folder, with what that lists, before all others
 pub data Listing : Type 0 where
   NoMore : Listing
-  OneFile : List ℕ → Entry → Listing → Listing
-  OneFolder : List ℕ → Listing → Listing → Listing
+  OneFile : Name → Entry → Listing → Listing
+  OneFolder : Name → Listing → Listing → Listing
 
 -- a change of what the folder of this name lists, which comes first or is new
-abbrev pub in_folder : List ℕ → (Listing → Listing) → Listing → Listing
+abbrev pub in_folder : Name → (Listing → Listing) → Listing → Listing
 in_folder name change NoMore = OneFolder name (change NoMore) NoMore
 in_folder name change (OneFile first entry others) = OneFolder name (change NoMore) (OneFile first entry others)
 in_folder name change (OneFolder first its others) =
     if bytes_eq first name then OneFolder name (change its) others else OneFolder name (change NoMore) (OneFolder first its others)
 
 -- a file, by the parts of its path, before all that is listed
-unfoldable pub with_file : List (List ℕ) → Entry → Listing → Listing
+unfoldable pub with_file : List Name → Entry → Listing → Listing
 with_file [] entry listing = listing
 with_file (name ∷ []) entry listing = OneFile name entry listing
 with_file (name ∷ next ∷ more) entry listing = in_folder name (with_file (next ∷ more) entry) listing
 
 -- what the root lists of a map, whose paths are in order
-unfoldable pub listing_of : List (List ℕ × Entry) → Listing
+unfoldable pub listing_of : Entries → Listing
 listing_of [] = NoMore
 listing_of (e ∷ es) = with_file (parts e.0) e.1 (listing_of es)
 
@@ -108,15 +110,15 @@ folder_trees (OneFile name entry others) = folder_trees others
 folder_trees (OneFolder name its others) = folder_trees its ++ tree_entries its ∷ folder_trees others
 
 -- one tree for each folder of a map, a folder after its subfolders, and the root last
-unfoldable pub trees_of : List (List ℕ × Entry) → List (List TreeEntry)
+unfoldable pub trees_of : Entries → List (List TreeEntry)
 trees_of es = folder_trees (listing_of es) ++ tree_entries (listing_of es) ∷ []
 
 -- the id of the root's tree
-unfoldable pub root_of : List (List ℕ × Entry) → List ℕ
+unfoldable pub root_of : Entries → Id
 root_of es = tree_id (tree_entries (listing_of es))
 
 -- a path has so many parts that its last tree could not be read back
-unfoldable pub is_too_deep : List (List ℕ × Entry) → Bool
+unfoldable pub is_too_deep : Entries → Bool
 is_too_deep es = list_any (λ e. nat_lt 256 (length (parts e.0))) es
 
 -- ---- putting trees
@@ -124,14 +126,16 @@ is_too_deep es = list_any (λ e. nat_lt 256 (length (parts e.0))) es
 -- why a tree was not put: it is so long, more than an object may be, or another text stands in the file of its id
 pub data PutFault : Type 0 where
   IsLarge : ℕ → PutFault
-  IsTaken : List ℕ → PutFault
+  IsTaken : Id → PutFault
 
 abbrev pub unless_taken : Put → Result World PutFault
 unless_taken put = elim put.collision [ None ↦ Ok put.world | Some id ↦ Err (IsTaken id) ]
 
 -- the world with a tree in its file
 unfoldable pub put_tree : World → List TreeEntry → Result World PutFault
-put_tree w tree = if nat_lt content_limit (length (tree_text tree)) then Err (IsLarge (length (tree_text tree))) else unless_taken (put_object w (tree_object tree))
+put_tree w tree =
+    if nat_lt content_limit (length (tree_text tree)) then Err (IsLarge (length (tree_text tree)))
+    else unless_taken (put_object w (tree_object tree))
 
 abbrev pub and_then : Result World PutFault → (World → Result World PutFault) → Result World PutFault
 and_then (Ok w) next = next w

@@ -29,7 +29,8 @@ fn put_id(alloc: Global, out: &mut Vec<u8>, key: &[u8], id: &Id) -> Result<(), A
 }
 
 fn put_parents(alloc: Global, out: &mut Vec<u8>, parents: &[Id]) -> Result<(), AllocError>
-    ensures text { IfOk result (λ _. out.new.items ≡ out.old.items ++ flat_map (λ parent. line (codes "parent " ++ encode_lower parent)) parents.now) }
+    ensures text { IfOk result (λ _. out.new.items
+        ≡ out.old.items ++ flat_map (λ parent. line (codes "parent " ++ encode_lower parent)) parents.now) }
     ensures spelled { IfOk result (λ _. AllByRecursion (λ parent. SpellsId parent (encode_lower parent)) parents.now) }
 {
     for parent in parents {

@@ -27,7 +27,9 @@ fn begins_encoding(line: &[u8]) -> bool
 
 /// Takes a further line of a header.
 fn take_line(taken: &mut Taken, line: &[u8]) -> Result<(), AllocError>
-    ensures { OnOk result ((lines : List (List ℕ)) → Takes taken.old.found taken.old.lasts taken.old.value.items lines → Takes taken.new.found taken.new.lasts taken.new.value.items (lines ++ line.now ∷ [])) }
+    ensures { OnOk result ((lines : List (List ℕ))
+        → Takes taken.old.found taken.old.lasts taken.old.value.items lines
+        → Takes taken.new.found taken.new.lasts taken.new.value.items (lines ++ line.now ∷ [])) }
 {
     if !taken.found {
         if begins_encoding(line) {

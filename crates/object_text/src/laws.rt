@@ -65,7 +65,7 @@ pub fn what_is_kept_stays(id: &[u8], object: &Object, rows: &[(Path, Entry)])
 {}
 
 /// The author and the committer of a commit each read as one ident, whose text they are; and the text of an ident may be an author's.
-#[tactic(auto, using(crate::proofs::CommitValues::author_reads, crate::proofs::CommitValues::committer_reads, crate::proofs::CommitValues::by_author))]
+#[tactic(auto, using(crate::proofs::CommitValues::author_laws))]
 pub fn author_reads_as_ident(commit: &Commit, ident: &Ident, text: &[u8])
     requires { IsCommitValue commit.now }
     ensures author { ReadsAsIdent commit.now.author }

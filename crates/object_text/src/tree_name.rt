@@ -175,7 +175,8 @@ impl Scan for NameScan<'_> {
 /// Whether a name goes on with the last byte of the front, and whether it is then a front of the last key.
 fn next_byte(last: &[u8], tied: bool, front: &[u8]) -> (bool, bool)
     requires { 0 < length front.now }
-    ensures { (seen : List ℕ) (b : ℕ) → HasSeen last.now tied seen → front.now ≡ seen ++ b ∷ [] → (result.0 ≡ may_name last.now front.now) × (result.0 ≡ true → HasSeen last.now result.1 front.now) }
+    ensures { (seen : List ℕ) (b : ℕ) → HasSeen last.now tied seen → front.now ≡ seen ++ b ∷ []
+        → (result.0 ≡ may_name last.now front.now) × (result.0 ≡ true → HasSeen last.now result.1 front.now) }
 {
     let at = front.len() - 1;
     let byte = front[at];

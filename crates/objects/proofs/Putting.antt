@@ -10,14 +10,14 @@ use Rattle.object_text.specs.declared.object.Object.{Object}
 use Rattle.object_text.specs.Objects.{object_text}
 use Rattle.object_text.specs.Store.{Put, content_limit, object_id}
 use Rattle.seq_base.specs.Repository.{object_path}
-use Rattle.seq_base.specs.Words.{Id, Path, Text}
+use Rattle.seq_base.specs.Words.{Id, Text}
 use Rattle.seq_base.specs.World.{World, is_blocked}
 use Rattle.seq_outside.specs.Halts.{halt_cause}
 use Rattle.seq_outside.specs.Seen.{HasCause, Seen}
 use Rattle.seq_outside.specs.Turns.{Turns, put_in}
 use Rattle.seq_outside.specs.declared.halt.Halt.{Halt}
 use Rattle.seq_outside.specs.declared.lack.Lack.{Lack}
-use Rattle.seq_outside.specs.declared.lack.Lack.TheVariants.{Place, Way}
+use Rattle.seq_outside.specs.declared.lack.Lack.TheVariants.{Place}
 use Rattle.objects.specs.Causes.{object_cause}
 use Rattle.objects.specs.Halts.{HasPutHalt}
 use Rattle.objects.specs.Puts.{HasPut, IsKept, IsPut, object_put}

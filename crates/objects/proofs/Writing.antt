@@ -22,6 +22,7 @@ use Rattle.objects.specs.declared.fault.ObjectFault.{ObjectFault}
 use Rattle.objects.specs.declared.fault.ObjectFault.TheVariants.{Missing, TooLarge, WrongHash, BadText, Collision, Blocked, Fault, Memory}
 use Rattle.objects.proofs.Reading.{object_read}
 use Rattle.seq_base.specs.Steps.{world_steps}
+use Rattle.seq_outside.specs.Store.{KeepsFiles}
 
 -- the header, and the content behind it
 pub pieces : (o : Object) → header_text o.kind (length o.bytes) ++ o.bytes ≡ object_text o
@@ -162,6 +163,28 @@ old_or_new w o (Err (Blocked path)) now is = inl is.same
 old_or_new w o (Err Fault) now (inl same) = inl same
 old_or_new w o (Err Fault) now (inr put) = old_or_put w o now put
 old_or_new w o (Err Memory) now is = inl is
+
+-- whatever ends it
+pub put_keeps : (w : World) (o : Object) (r : Result (List ℕ) ObjectFault) (now : World) → HasPut w o r now → KeepsFiles w now
+put_keeps w o r now is path text stands = at r is
+  where
+    same : now ≡ w → map.get now path ≡ Some text
+    same is = ap (λ (v : World). map.get v path) is ∙ stands
+
+    put : now ≡ (put_object w o).world → map.get now path ≡ Some text
+    put is = ap (λ (v : World). map.get v path) is ∙ file_stays w o path text stands
+
+    at : (r : Result (List ℕ) ObjectFault) → HasPut w o r now → map.get now path ≡ Some text
+    at (Ok id) is = put is.world
+    at (Err Missing) is = absurd is
+    at (Err (TooLarge count)) is = same is.same
+    at (Err (WrongHash id found)) is = same is.1.same
+    at (Err (BadText _)) is = absurd is
+    at (Err (Collision id kept)) is = same is.0.same
+    at (Err (Blocked path)) is = same is.same
+    at (Err Fault) (inl is) = same is
+    at (Err Fault) (inr is) = put is
+    at (Err Memory) is = same is
 
 pub put_elsewhere : (w : World) (o : Object) (r : Result (List ℕ) ObjectFault) (now : World) → HasPut w o r now → (other : List ℕ) → eq_by_cmp path_cmp other (object_path (object_id o)) ≡ false → map.get now other ≡ map.get w other
 put_elsewhere w o r now is other apart = elim (old_or_new w o r now is) [

@@ -5,7 +5,7 @@ ghost use Rattle.object_text.specs.Commits.{IsCommitValue};
 ghost use Rattle.object_text.specs.Store.{object_id};
 ghost use Rattle.seq_outside.specs.Halts.{Gives, halt_cause};
 ghost use Rattle.seq_outside.specs.Seen.{Reads, Writes};
-ghost use Rattle.seq_outside.specs.Store.{StaysOutside};
+ghost use Rattle.seq_outside.specs.Store.{KeepsFiles, StaysOutside};
 ghost use Rattle.seq_outside.specs.Turns.{Turns};
 ghost use Rattle.objects.specs.Causes.{IsPutFault};
 ghost use Rattle.objects.specs.Halts.{HasPutHalt, halt_of_commit, halt_of_object};
@@ -128,7 +128,7 @@ fn put_halt(fault: ObjectFault) -> Halt<Lack>
 }
 
 /// Puts an object, and answers its id (git-hash-object(1), `-w`). Limit where it is too large; else Place where another text stands in
-/// its file; else Way where another file is in its way.
+/// its file; else Way where another file is in its way. Whatever ends it, each file that stood is as it was.
 #[tactic(auto, using(crate::proofs::Putting::object_is_put, crate::proofs::Putting::put_halts))]
 pub fn write_object<S: Store>(
     alloc: Global,
@@ -138,6 +138,7 @@ pub fn write_object<S: Store>(
 ) -> Result<Id, Halt<Lack>>
     ensures turns { S.told → Turns (λ id. id) result (object_put (object_of kind bytes.now) (S.seen store.old).content) (S.seen store.new).content }
     ensures id { IfOk result (λ id. id ≡ object_id (object_of kind bytes.now)) }
+    ensures keeps { S.told → KeepsFiles (S.seen store.old).content (S.seen store.new).content }
     ensures elsewhere { S.told → StaysOutside is_object_place (S.seen store.old).content (S.seen store.new).content }
     ensures writes { Writes S.told halt_cause result (S.seen store.old) (S.seen store.new) }
 {

@@ -94,7 +94,10 @@ pub fn put<S: Store>(
 
     // They follow from `put`.
     ensures object { S.told → IfOk result (λ id. object_at (S.seen store.new).content id ≡ Some (object_of kind bytes.now)) }
-    ensures elsewhere { S.told → StaysElsewhere (object_path (object_id (object_of kind bytes.now))) (S.seen store.old).content (S.seen store.new).content }
+    ensures elsewhere { S.told → StaysElsewhere
+        (object_path (object_id (object_of kind bytes.now)))
+        (S.seen store.old).content
+        (S.seen store.new).content }
     ensures writes { Writes S.told object_cause result (S.seen store.old) (S.seen store.new) }
 {
     if bytes.len() > CONTENT_LIMIT {

@@ -7,7 +7,8 @@ use Rattle.object_text.specs.declared.tree.TreeEntry.{TreeEntry}
 use Rattle.object_text.specs.Store.{tree_at}
 use Rattle.object_text.specs.TreeMaps.{MapFault, BadTree, TooDeep, entries_map, is_folder, map_below, opened}
 use Rattle.path_trees.specs.Reads.{Blames, GivesTree}
-use Rattle.path_trees.specs.Rows.{GivesRows, Rows, has_path}
+use Rattle.seq_base.specs.PathMaps.{Entries}
+use Rattle.path_trees.specs.Rows.{GivesRows, has_path}
 use Rattle.path_trees.specs.declared.fault.TreeFault.{TreeFault}
 use Rattle.path_trees.specs.declared.fault.TreeFault.TheVariants.{BadObject, TooLarge, Depth, Blocked, Fault, Memory}
 use Rattle.path_trees.proofs.Build.{first_of}
@@ -55,7 +56,7 @@ rows_blame n w folder id es Memory lt some is = tt
 
 -- ---- a row
 
-pub file_first : (sub : List ℕ → List ℕ → Result Rows MapFault) (x : List ℕ × Entry) → is_folder x.1.mode ≡ false → first_of sub x ≡ Ok (x ∷ [])
+pub file_first : (sub : List ℕ → List ℕ → Result Entries MapFault) (x : List ℕ × Entry) → is_folder x.1.mode ≡ false → first_of sub x ≡ Ok (x ∷ [])
 file_first sub x off = ap (λ (t : Bool). cond t (sub x.0 x.1.id) (Ok (x ∷ []))) off
 
 pub folder_first : (n : ℕ) (w now : World) (path : List ℕ) (x : List ℕ × Entry) → now ≡ w → path ≡ x.0 → is_folder x.1.mode ≡ true → map_below n now path x.1.id ≡ first_of (map_below n w) x

@@ -11,7 +11,7 @@ use Rattle.std.proofs.lemmas.List.Splits.{slice_split_none}
 use Rattle.std.proofs.lemmas.List.Sums.{AllPass-from_list_all, passes_at_first, split_at_first}
 use Rattle.std.proofs.lemmas.Slice.Eq.{starts_is}
 use Rattle.seq_base.specs.Paths.{IsPath, parts}
-use Rattle.seq_base.specs.PathMaps.{HoldsFiles, IsPathMap}
+use Rattle.seq_base.specs.PathMaps.{HoldsFiles, IsPathMap, Entries}
 use Rattle.seq_base.specs.Words.{Id}
 use Rattle.seq_base.specs.World.{World}
 use Rattle.seq_base.specs.declared.map.Entry.{Entry}
@@ -23,11 +23,10 @@ use Rattle.object_text.specs.declared.tree.TreeEntry.{TreeEntry}
 use Rattle.object_text.specs.TreeMaps.{Listing, OneFile, OneFolder, folder_trees, is_folder, listing_of, root_of, tree_entries, tree_id, tree_object, trees_of}
 use Rattle.object_text.specs.Trees.{HaveIds, IsTreeOrder, is_name}
 use Rattle.objects.specs.Puts.{object_put}
-use Rattle.seq_outside.specs.Store.{StaysOutside}
+use Rattle.seq_outside.specs.Store.{KeepsFiles, StaysOutside}
 use Rattle.seq_outside.proofs.Turning.{same_answer, same_world}
 use Rattle.objects.specs.Named.{is_object_place}
 use Rattle.path_trees.specs.Puts.{GoesOnBehind, HasPut, count_inside, cut, each_put, folder_put, is_inside}
-use Rattle.path_trees.specs.Rows.{Rows}
 use Rattle.path_trees.specs.declared.fault.TreeFault.{TreeFault}
 use Rattle.path_trees.specs.declared.fault.TreeFault.TheVariants.{BadObject, TooLarge, Depth, Blocked, Fault, Memory}
 use Rattle.path_trees.proofs.Listings.{AreFiles, HaveNames, IsOther, file_listed, folder_listed, in_front, listing_whole, other_listed, parts_in_front, rows_listed}
@@ -104,14 +103,14 @@ files_of Link other = refl
 files_of Gitlink other = refl
 files_of Folder other = absurd (other refl)
 
-pub are_files : (rows : Rows) → HoldsFiles rows → AreFiles rows
+pub are_files : (rows : Entries) → HoldsFiles rows → AreFiles rows
 are_files [] files = tt
 are_files (e ∷ es) files = (files_of e.1.mode files.0, are_files es files.1)
 
-pub map_ordered : (rows : Rows) → HaveNames rows → IsPathMap rows → IsTreeOrder (tree_entries (listing_of rows))
+pub map_ordered : (rows : Entries) → HaveNames rows → IsPathMap rows → IsTreeOrder (tree_entries (listing_of rows))
 map_ordered rows names is = tree_ordered (listing_of rows) (listing_whole rows names (are_files rows is.files)) (subst AllApart (sym (rows_listed rows)) (map_apart rows is))
 
-goes_front : (skip : ℕ) (xs ys : Rows) → GoesOnBehind skip (xs ++ ys) → GoesOnBehind skip xs
+goes_front : (skip : ℕ) (xs ys : Entries) → GoesOnBehind skip (xs ++ ys) → GoesOnBehind skip xs
 goes_front skip xs ys goes =
     let split : cut skip (xs ++ ys) ≡ cut skip xs ++ cut skip ys = map-append (λ (e : List ℕ × Entry). (drop skip e.0, e.1)) xs ys in
     let is_map = subst IsPathMap split goes.is_map in
@@ -122,7 +121,7 @@ goes_front skip xs ys goes =
       is_map = apart_map (cut skip xs) (apart_front (cut skip xs) (cut skip ys) (map_apart (cut skip xs ++ cut skip ys) is_map)) (all_front (λ e. e.1.mode ≡ Folder → ⊥) (cut skip xs) (cut skip ys) is_map.files);
     }
 
-goes_back : (skip : ℕ) (xs ys : Rows) → GoesOnBehind skip (xs ++ ys) → GoesOnBehind skip ys
+goes_back : (skip : ℕ) (xs ys : Entries) → GoesOnBehind skip (xs ++ ys) → GoesOnBehind skip ys
 goes_back skip xs ys goes =
     let split : cut skip (xs ++ ys) ≡ cut skip xs ++ cut skip ys = map-append (λ (e : List ℕ × Entry). (drop skip e.0, e.1)) xs ys in
     let is_map = subst IsPathMap split goes.is_map in
@@ -135,7 +134,7 @@ goes_back skip xs ys goes =
 
 -- ---- the rows of one subfolder
 
-abbrev AreInside : List ℕ → ℕ → Rows → Type 0
+abbrev AreInside : List ℕ → ℕ → Entries → Type 0
 AreInside name skip rows = list_all (λ e. is_inside (name ++ 47 ∷ []) e.0) (cut skip rows) ≡ true
 
 inside_is : (name path : List ℕ) → is_inside (name ++ 47 ∷ []) path ≡ true → path ≡ name ++ 47 ∷ drop (length name + 1) path
@@ -148,13 +147,13 @@ deeper name path skip next is inside =
     let more : skip + (length name + 1) ≡ next = omega arith in
     inside_is name (drop skip path) inside ∙ ap (λ (p : List ℕ). name ++ 47 ∷ p) (drop-drop (length name + 1) skip path ∙ ap (λ (n : ℕ). drop n path) more)
 
-all_deeper : (name : List ℕ) (skip next : ℕ) (rows : Rows) → next ≡ skip + length name + 1 → AreInside name skip rows → cut skip rows ≡ map (in_front name) (cut next rows)
+all_deeper : (name : List ℕ) (skip next : ℕ) (rows : Entries) → next ≡ skip + length name + 1 → AreInside name skip rows → cut skip rows ≡ map (in_front name) (cut next rows)
 all_deeper name skip next [] is inside = refl
 all_deeper name skip next (e ∷ es) is inside =
     let both = and_parts (is_inside (name ++ 47 ∷ []) (drop skip e.0)) (list_all (λ d. is_inside (name ++ 47 ∷ []) d.0) (cut skip es)) inside in
-    ap (λ (p : List ℕ). (p, e.1) ∷ cut skip es) (deeper name e.0 skip next is both.0) ∙ ap (λ (rows : Rows). (name ++ 47 ∷ drop next e.0, e.1) ∷ rows) (all_deeper name skip next es is both.1)
+    ap (λ (p : List ℕ). (p, e.1) ∷ cut skip es) (deeper name e.0 skip next is both.0) ∙ ap (λ (rows : Entries). (name ++ 47 ∷ drop next e.0, e.1) ∷ rows) (all_deeper name skip next es is both.1)
 
-all_longer : (name : List ℕ) (skip next : ℕ) (rows : Rows) → next ≡ skip + length name + 1 → AreInside name skip rows → AllByRecursion (λ e. skip ≤ length e.0) rows → AllByRecursion (λ e. next ≤ length e.0) rows
+all_longer : (name : List ℕ) (skip next : ℕ) (rows : Entries) → next ≡ skip + length name + 1 → AreInside name skip rows → AllByRecursion (λ e. skip ≤ length e.0) rows → AllByRecursion (λ e. next ≤ length e.0) rows
 all_longer name skip next [] is inside long = tt
 all_longer name skip next (e ∷ es) is inside long =
     let both = and_parts (is_inside (name ++ 47 ∷ []) (drop skip e.0)) (list_all (λ d. is_inside (name ++ 47 ∷ []) d.0) (cut skip es)) inside in
@@ -162,15 +161,15 @@ all_longer name skip next (e ∷ es) is inside long =
     let first = long.0 in
     (omega (arith, size, first, length-drop skip e.0, length-append name (47 ∷ drop next e.0)), all_longer name skip next es is both.1 long.1)
 
-inner_names : (name : List ℕ) (rows : Rows) → has_no_slash name ≡ true → HaveNames (map (in_front name) rows) → HaveNames rows
+inner_names : (name : List ℕ) (rows : Entries) → has_no_slash name ≡ true → HaveNames (map (in_front name) rows) → HaveNames rows
 inner_names name [] none names = tt
 inner_names name (e ∷ es) none names = ((and_parts (is_name name) (list_all is_name (parts e.0)) (sym (ap (list_all is_name) (parts_in_front name e.0 none)) ∙ names.0)).1, inner_names name es none names.1)
 
-inner_files : (name : List ℕ) (rows : Rows) → HoldsFiles (map (in_front name) rows) → HoldsFiles rows
+inner_files : (name : List ℕ) (rows : Entries) → HoldsFiles (map (in_front name) rows) → HoldsFiles rows
 inner_files name [] files = tt
 inner_files name (e ∷ es) files = (files.0, inner_files name es files.1)
 
-goes_inside : (name : List ℕ) (skip next : ℕ) (rows : Rows) → next ≡ skip + length name + 1 → has_no_slash name ≡ true → AreInside name skip rows → GoesOnBehind skip rows → GoesOnBehind next rows
+goes_inside : (name : List ℕ) (skip next : ℕ) (rows : Entries) → next ≡ skip + length name + 1 → has_no_slash name ≡ true → AreInside name skip rows → GoesOnBehind skip rows → GoesOnBehind next rows
 goes_inside name skip next rows is none inside goes =
     let all = all_deeper name skip next rows is inside in
     let is_map = subst IsPathMap all goes.is_map in
@@ -182,14 +181,14 @@ goes_inside name skip next rows is none inside goes =
     }
 
 -- the folder is listed first, by the rows that stand in it
-pub record HasGroup (name : List ℕ) (skip next : ℕ) (rest inside others : Rows) : Type 0 where
+pub record HasGroup (name : List ℕ) (skip next : ℕ) (rest inside others : Entries) : Type 0 where
   pub listed : listing_of (cut skip rest) ≡ OneFolder name (listing_of (cut next inside)) (listing_of (cut skip others))
   pub inner : GoesOnBehind next inside
   pub outer : GoesOnBehind skip others
   pub fewer : length others < length rest
   pub whole : rest ≡ inside ++ others
 
-some_listed : (name : List ℕ) (rows others : Rows) → 0 < length rows → has_no_slash name ≡ true → IsOther name (listing_of others) → listing_of (map (in_front name) rows ++ others) ≡ OneFolder name (listing_of rows) (listing_of others)
+some_listed : (name : List ℕ) (rows others : Entries) → 0 < length rows → has_no_slash name ≡ true → IsOther name (listing_of others) → listing_of (map (in_front name) rows ++ others) ≡ OneFolder name (listing_of rows) (listing_of others)
 some_listed name [] others some none other = absurd (omega arith)
 some_listed name (e ∷ es) others some none other = folder_listed name e es others none other
 
@@ -200,7 +199,7 @@ twice : (b : Bool) → not (not b) ≡ b
 twice true = refl
 twice false = refl
 
-all_twice : (test : List ℕ × Entry → Bool) (rows : Rows) → list_all (λ e. not (not (test e))) rows ≡ list_all test rows
+all_twice : (test : List ℕ × Entry → Bool) (rows : Entries) → list_all (λ e. not (not (test e))) rows ≡ list_all test rows
 all_twice test [] = refl
 all_twice test (e ∷ es) = ap (λ (b : Bool). b && list_all (λ d. not (not (test d))) es) (twice (test e)) ∙ ap (λ (b : Bool). test e && b) (all_twice test es)
 
@@ -212,7 +211,7 @@ folder_with_slash path at slash =
     let long : at + 1 ≡ length (name ++ 47 ∷ []) = sym (length-append name (47 ∷ []) ∙ ap (λ (k : ℕ). k + 1) size) in
     ap (λ (k : ℕ). take k path) long ∙ (ap (take (length (name ++ 47 ∷ []))) whole ∙ take-append_seam (name ++ 47 ∷ []) (drop (at + 1) path))
 
-module _ (skip at next : ℕ) (path : List ℕ) (rest after : Rows) (x : List ℕ × Entry) (rest_is : rest ≡ x ∷ after) (path_is : path ≡ drop skip x.0) (slash : HasSlash path at) (next_is : next ≡ skip + at + 1) (goes : GoesOnBehind skip rest) where
+module _ (skip at next : ℕ) (path : List ℕ) (rest after : Entries) (x : List ℕ × Entry) (rest_is : rest ≡ x ∷ after) (path_is : path ≡ drop skip x.0) (slash : HasSlash path at) (next_is : next ≡ skip + at + 1) (goes : GoesOnBehind skip rest) where
   abbrev name : List ℕ
   name = take at path
 
@@ -255,9 +254,9 @@ module _ (skip at next : ℕ) (path : List ℕ) (rest after : Rows) (x : List �
       let both = subst (GoesOnBehind skip) split goes in
       record {
         listed =
-            ap (λ (rows : Rows). listing_of (cut skip rows)) split
+            ap (λ (rows : Entries). listing_of (cut skip rows)) split
             ∙ (ap listing_of (map-append (λ (e : List ℕ × Entry). (drop skip e.0, e.1)) (take many rest) (drop many rest))
-            ∙ (ap (λ (rows : Rows). listing_of (rows ++ cut skip (drop many rest))) (all_deeper name skip next (take many rest) more inside)
+            ∙ (ap (λ (rows : Entries). listing_of (rows ++ cut skip (drop many rest))) (all_deeper name skip next (take many rest) more inside)
             ∙ some_listed name (cut next (take many rest)) (cut skip (drop many rest)) some slash.none apart));
         inner = goes_inside name skip next (take many rest) more slash.none inside (goes_front skip (take many rest) (drop many rest) both);
         outer = goes_back skip (take many rest) (drop many rest) both;
@@ -268,52 +267,54 @@ module _ (skip at next : ℕ) (path : List ℕ) (rest after : Rows) (x : List �
         whole = split;
       }
 
-pub group_at : (skip at next n : ℕ) (path folder : List ℕ) (rest after inside others : Rows) (x : List ℕ × Entry) → rest ≡ x ∷ after → path ≡ drop skip x.0 → position (λ b. b == 47) path ≡ Some at → next ≡ skip + at + 1 → GoesOnBehind skip rest
+pub group_at : (skip at next n : ℕ) (path folder : List ℕ) (rest after inside others : Entries) (x : List ℕ × Entry) → rest ≡ x ∷ after → path ≡ drop skip x.0 → position (λ b. b == 47) path ≡ Some at → next ≡ skip + at + 1 → GoesOnBehind skip rest
     → folder ≡ take (at + 1) path → n ≡ count_inside folder (cut skip rest) → inside ≡ take n rest → others ≡ drop n rest → HasGroup (take at path) skip next rest inside others
 group_at skip at next n path folder rest after inside others x rest_is path_is found next_is goes folder_is n_is inside_is others_is =
     let slash = slash_found path at found in
     let long : n ≡ prefix_len (λ e. not (not (is_inside (take at path ++ 47 ∷ []) e.0))) (cut skip rest) = n_is ∙ ap (λ (f : List ℕ). count_inside f (cut skip rest)) (folder_is ∙ folder_with_slash path at slash) in
     let group = grouped skip at next path rest after x rest_is path_is slash next_is goes in
-    subst (λ (rows : Rows). HasGroup (take at path) skip next rest rows others) (sym inside_is)
-    (subst (λ (rows : Rows). HasGroup (take at path) skip next rest (take n rest) rows) (sym others_is)
+    subst (λ (rows : Entries). HasGroup (take at path) skip next rest rows others) (sym inside_is)
+    (subst (λ (rows : Entries). HasGroup (take at path) skip next rest (take n rest) rows) (sym others_is)
     (subst (λ (k : ℕ). HasGroup (take at path) skip next rest (take k rest) (drop k rest)) (sym long) group))
 
 -- ---- ids
 
 -- each id has twenty bytes
-abbrev pub HaveRowIds : Rows → Type 0
+abbrev pub HaveRowIds : Entries → Type 0
 HaveRowIds = AllByRecursion (λ e. length e.1.id ≡ 20)
 
 split_ids : (es later : List TreeEntry) → HaveIds (es ++ later) → HaveIds es × HaveIds later
 split_ids [] later all = (tt, all)
 split_ids (e ∷ es) later all = let both = split_ids es later all.1 in ((all.0, both.0), both.1)
 
-join_ids : (rows later : Rows) → HaveRowIds rows → HaveRowIds later → HaveRowIds (rows ++ later)
+join_ids : (rows later : Entries) → HaveRowIds rows → HaveRowIds later → HaveRowIds (rows ++ later)
 join_ids [] later own more = more
 join_ids (e ∷ es) later own more = (own.0, join_ids es later own.1 more)
 
 -- ---- what was put so far
 
 -- The entries so far and those of the rows left are the folder's; the trees so far were put, and then come those of the rows left.
-pub record IsWay (told : Type 0) (skip : ℕ) (rows left : Rows) (entries : List TreeEntry) (old now : World) : Type 0 where
+pub record IsWay (told : Type 0) (skip : ℕ) (rows left : Entries) (entries : List TreeEntry) (old now : World) : Type 0 where
   pub goes : GoesOnBehind skip left
   pub entries_are : tree_entries (listing_of (cut skip rows)) ≡ entries ++ tree_entries (listing_of (cut skip left))
   pub trees_are : told → each_put (folder_trees (listing_of (cut skip rows))) old ≡ each_put (folder_trees (listing_of (cut skip left))) now
   pub stays : told → StaysOutside is_object_place old now
+  pub keeps : told → KeepsFiles old now
   pub ids : HaveIds entries → HaveRowIds left → HaveRowIds rows
 
-pub way_file : (told : Type 0) (skip : ℕ) (rows left after : Rows) (x : List ℕ × Entry) (path : List ℕ) (entries : List TreeEntry) (old now : World)
+pub way_file : (told : Type 0) (skip : ℕ) (rows left after : Entries) (x : List ℕ × Entry) (path : List ℕ) (entries : List TreeEntry) (old now : World)
     → IsWay told skip rows left entries old now → left ≡ x ∷ after → path ≡ drop skip x.0 → position (λ b. b == 47) path ≡ None
     → IsWay told skip rows after (entries ++ record { mode = x.1.mode; name = path; id = x.1.id } ∷ []) old now
 unfolding tree_entries folder_trees
 way_file told skip rows left after x path entries old now way left_is path_is none =
     let listed : listing_of (cut skip left) ≡ OneFile path x.1 (listing_of (cut skip after)) =
-    ap (λ (rs : Rows). listing_of (cut skip rs)) left_is ∙ (ap (λ (p : List ℕ). listing_of ((p, x.1) ∷ cut skip after)) (sym path_is) ∙ file_listed path x.1 (cut skip after) (no_slash_found path none)) in
+    ap (λ (rs : Entries). listing_of (cut skip rs)) left_is ∙ (ap (λ (p : List ℕ). listing_of ((p, x.1) ∷ cut skip after)) (sym path_is) ∙ file_listed path x.1 (cut skip after) (no_slash_found path none)) in
     record {
       goes = goes_back skip (x ∷ []) after (subst (GoesOnBehind skip) left_is way.goes);
       entries_are = way.entries_are ∙ (ap (λ (l : Listing). entries ++ tree_entries l) listed ∙ sym (append_assoc entries (record { mode = x.1.mode; name = path; id = x.1.id } ∷ []) (tree_entries (listing_of (cut skip after)))));
       trees_are = λ t. way.trees_are t ∙ ap (λ (l : Listing). each_put (folder_trees l) now) listed;
       stays = way.stays;
+      keeps = way.keeps;
       ids = λ own all.
           let both = split_ids entries (record { mode = x.1.mode; name = path; id = x.1.id } ∷ []) own in
           way.ids both.0 (subst HaveRowIds (sym left_is) (both.1.0, all));
@@ -326,7 +327,7 @@ subtree_first w its others folder =
     ap (λ (trees : List (List TreeEntry)). each_put trees w) (sym (append_assoc (folder_trees its) (tree_entries its ∷ []) (folder_trees others))) ∙ each_put-append (folder_trees its ++ tree_entries its ∷ []) (folder_trees others) w
 
 -- the trees of a folder that was put, and of one that was not
-pub was_folder_put : (rows : Rows) (w : World) (id : Id) (now : World) → folder_put rows w ≡ (Ok id, now) → each_put (trees_of rows) w ≡ (Ok unit, now)
+pub was_folder_put : (rows : Entries) (w : World) (id : Id) (now : World) → folder_put rows w ≡ (Ok id, now) → each_put (trees_of rows) w ≡ (Ok unit, now)
 unfolding folder_put
 was_folder_put rows w id now is = by (each_put (trees_of rows) w) is
   where
@@ -334,7 +335,7 @@ was_folder_put rows w id now is = by (each_put (trees_of rows) w) is
     by (Ok all, v) is = ap (λ (u : World). (Ok unit, u)) (same_world is)
     by (Err why, v) is = let never = same_answer is in absurd cc
 
-was_not_put : (rows : Rows) (w : World) (why : Lack) (now : World) → folder_put rows w ≡ (Err why, now) → each_put (trees_of rows) w ≡ (Err why, now)
+was_not_put : (rows : Entries) (w : World) (why : Lack) (now : World) → folder_put rows w ≡ (Err why, now) → each_put (trees_of rows) w ≡ (Err why, now)
 unfolding folder_put
 was_not_put rows w why now is = by (each_put (trees_of rows) w) is
   where
@@ -346,11 +347,11 @@ was_not_put rows w why now is = by (each_put (trees_of rows) w) is
         let here = same_world is in
         rw (other_is, here) refl
 
-pub way_folder : (told : Type 0) (skip next : ℕ) (rows left inside others : Rows) (name id : List ℕ) (entries : List TreeEntry) (old now new : World)
-    → IsWay told skip rows left entries old now → HasGroup name skip next left inside others → id ≡ root_of (cut next inside) → (told → StaysOutside is_object_place now new) → HaveRowIds inside
+pub way_folder : (told : Type 0) (skip next : ℕ) (rows left inside others : Entries) (name id : List ℕ) (entries : List TreeEntry) (old now new : World)
+    → IsWay told skip rows left entries old now → HasGroup name skip next left inside others → id ≡ root_of (cut next inside) → (told → StaysOutside is_object_place now new) → (told → KeepsFiles now new) → HaveRowIds inside
     → (told → HasPut (Ok id) (folder_put (cut next inside) now) new) → IsWay told skip rows others (entries ++ record { mode = Folder; name = name; id = id } ∷ []) old new
 unfolding tree_entries root_of trees_of
-way_folder told skip next rows left inside others name id entries old now new way group root stays inner_ids put = record {
+way_folder told skip next rows left inside others name id entries old now new way group root stays keeps inner_ids put = record {
   goes = group.outer;
   entries_are =
       way.entries_are
@@ -363,6 +364,7 @@ way_folder told skip next rows left inside others name id entries old now new wa
       ∙ (subtree_first now (listing_of (cut next inside)) (listing_of (cut skip others)) name
       ∙ ap (λ (r : Result (Unit {0}) Lack × World). go_on r (λ all. each_put (folder_trees (listing_of (cut skip others))))) (was_folder_put (cut next inside) now id new (put t))));
   stays = λ t path other. stays t path other ∙ way.stays t path other;
+  keeps = λ t path text there. keeps t path text (way.keeps t path text there);
   ids = λ own all. way.ids (split_ids entries (record { mode = Folder; name = name; id = id } ∷ []) own).0 (subst HaveRowIds (sym group.whole) (join_ids inside others inner_ids all));
 }
 
@@ -378,7 +380,7 @@ stops_alike means later Memory new alike is = tt
 all_trees : (w : World) (listing : Listing) → each_put (folder_trees listing ++ tree_entries listing ∷ []) w ≡ go_on (each_put (folder_trees listing) w) (λ put. each_put (tree_entries listing ∷ []))
 all_trees w listing = each_put-append (folder_trees listing) (tree_entries listing ∷ []) w
 
-pub way_stops : (told : Type 0) (skip next : ℕ) (rows left inside others : Rows) (name : List ℕ) (entries : List TreeEntry) (old now : World) (e : TreeFault) (new : World)
+pub way_stops : (told : Type 0) (skip next : ℕ) (rows left inside others : Entries) (name : List ℕ) (entries : List TreeEntry) (old now : World) (e : TreeFault) (new : World)
     → IsWay told skip rows left entries old now → HasGroup name skip next left inside others → told → HasPut (Err e) (folder_put (cut next inside) now) new → HasPut (Err e) (folder_put (cut skip rows) old) new
 unfolding trees_of folder_put
 way_stops told skip next rows left inside others name entries old now e new way group t put = stops_alike (folder_put (cut next inside) now) (folder_put (cut skip rows) old) e new stops put
@@ -394,7 +396,7 @@ way_stops told skip next rows left inside others name entries old now e new way 
         (all_trees old (listing_of (cut skip rows)) ∙ ap (λ (r : Result (Unit {0}) Lack × World). go_on r (λ all. each_put (tree_entries (listing_of (cut skip rows)) ∷ []))) folders)
 
 -- at the end the folder's own tree comes
-ends_with_tree : (told : Type 0) (skip : ℕ) (rows : Rows) (entries : List TreeEntry) (old now : World) → IsWay told skip rows [] entries old now → told
+ends_with_tree : (told : Type 0) (skip : ℕ) (rows : Entries) (entries : List TreeEntry) (old now : World) → IsWay told skip rows [] entries old now → told
     → folder_put (cut skip rows) old ≡ go_on (go_on (object_put (tree_object (tree_entries (listing_of (cut skip rows)))) now) (λ id. gives unit)) (λ all. gives (root_of (cut skip rows)))
 unfolding trees_of folder_trees listing_of folder_put
 ends_with_tree told skip rows entries old now way t =
@@ -403,18 +405,18 @@ ends_with_tree told skip rows entries old now way t =
     ∙ (ap (λ (r : Result (Unit {0}) Lack × World). go_on r (λ all. each_put (tree_entries (listing_of (cut skip rows)) ∷ []))) (way.trees_are t ∙ each_put-none now)
     ∙ each_put-one (tree_entries (listing_of (cut skip rows))) now))
 
-pub all_entries : (told : Type 0) (skip : ℕ) (rows : Rows) (entries : List TreeEntry) (old now : World) → IsWay told skip rows [] entries old now → tree_entries (listing_of (cut skip rows)) ≡ entries
+pub all_entries : (told : Type 0) (skip : ℕ) (rows : Entries) (entries : List TreeEntry) (old now : World) → IsWay told skip rows [] entries old now → tree_entries (listing_of (cut skip rows)) ≡ entries
 unfolding tree_entries listing_of
 all_entries told skip rows entries old now way = way.entries_are ∙ append-nil entries
 
-pub way_ordered : (told : Type 0) (skip : ℕ) (rows : Rows) (entries : List TreeEntry) (old now : World) → GoesOnBehind skip rows → IsWay told skip rows [] entries old now → IsTreeOrder entries
+pub way_ordered : (told : Type 0) (skip : ℕ) (rows : Entries) (entries : List TreeEntry) (old now : World) → GoesOnBehind skip rows → IsWay told skip rows [] entries old now → IsTreeOrder entries
 way_ordered told skip rows entries old now goes way = subst IsTreeOrder (all_entries told skip rows entries old now way) (map_ordered (cut skip rows) goes.names goes.is_map)
 
-root_is : (told : Type 0) (skip : ℕ) (rows : Rows) (entries : List TreeEntry) (old now : World) → IsWay told skip rows [] entries old now → tree_id entries ≡ root_of (cut skip rows)
+root_is : (told : Type 0) (skip : ℕ) (rows : Entries) (entries : List TreeEntry) (old now : World) → IsWay told skip rows [] entries old now → tree_id entries ≡ root_of (cut skip rows)
 unfolding root_of
 root_is told skip rows entries old now way = ap tree_id (sym (all_entries told skip rows entries old now way))
 
-pub way_root : (told : Type 0) (skip : ℕ) (rows : Rows) (entries : List TreeEntry) (old now : World) (r : Result Id TreeFault) → IsWay told skip rows [] entries old now → IfOk r (λ id. id ≡ tree_id entries) → IfOk r (λ id. id ≡ root_of (cut skip rows))
+pub way_root : (told : Type 0) (skip : ℕ) (rows : Entries) (entries : List TreeEntry) (old now : World) (r : Result Id TreeFault) → IsWay told skip rows [] entries old now → IfOk r (λ id. id ≡ tree_id entries) → IfOk r (λ id. id ≡ root_of (cut skip rows))
 way_root told skip rows entries old now (Ok id) way is = is ∙ root_is told skip rows entries old now way
 way_root told skip rows entries old now (Err e) way is = tt
 
@@ -423,7 +425,7 @@ tree_ends : (root : Id) (means : Result Id Lack × World) (r : Result Id TreeFau
 tree_ends root means (Ok id) new root_is put = rw put (ap (λ (i : Id). (Ok i, new)) (sym root_is))
 tree_ends root means (Err e) new root_is put = stops_alike means (go_on (go_on means (λ id. gives unit)) (λ all. gives root)) e new (λ why is. rw is refl) put
 
-pub way_ends : (told : Type 0) (skip : ℕ) (rows : Rows) (entries : List TreeEntry) (old now : World) (r : Result Id TreeFault) (new : World) → IsWay told skip rows [] entries old now → told → IfOk r (λ id. id ≡ tree_id entries)
+pub way_ends : (told : Type 0) (skip : ℕ) (rows : Entries) (entries : List TreeEntry) (old now : World) (r : Result Id TreeFault) (new : World) → IsWay told skip rows [] entries old now → told → IfOk r (λ id. id ≡ tree_id entries)
     → HasPut r (object_put (tree_object entries) now) new → HasPut r (folder_put (cut skip rows) old) new
 way_ends told skip rows entries old now r new way t root put =
     let entries_are = all_entries told skip rows entries old now way in
@@ -431,7 +433,7 @@ way_ends told skip rows entries old now r new way t root put =
     subst (λ (m : Result Id Lack × World). HasPut r m new) (sym (ends_with_tree told skip rows entries old now way t))
     (tree_ends (root_of (cut skip rows)) (object_put (tree_object (tree_entries (listing_of (cut skip rows)))) now) r new (way_root told skip rows entries old now r way root) last)
 
-pub nothing : (rows : Rows) → length rows ≡ 0 → rows ≡ []
+pub nothing : (rows : Entries) → length rows ≡ 0 → rows ≡ []
 nothing [] none = refl
 nothing (e ∷ es) none = absurd (omega arith)
 
@@ -443,6 +445,6 @@ falls bytes skip at path slash =
     let within = slash.within in
     omega (arith, size, short, within)
 
-pub way_ids : (told : Type 0) (skip : ℕ) (rows : Rows) (entries : List TreeEntry) (old now : World) (r : Result Id TreeFault) → IsWay told skip rows [] entries old now → OnOk r (HaveIds entries) → OnOk r (HaveRowIds rows)
+pub way_ids : (told : Type 0) (skip : ℕ) (rows : Entries) (entries : List TreeEntry) (old now : World) (r : Result Id TreeFault) → IsWay told skip rows [] entries old now → OnOk r (HaveIds entries) → OnOk r (HaveRowIds rows)
 way_ids told skip rows entries old now (Ok id) way ids = way.ids ids tt
 way_ids told skip rows entries old now (Err e) way ids = tt

@@ -12,7 +12,7 @@ use Rattle.seq_base.specs.declared.map.Entry.{Entry}
 use Rattle.seq_base.proofs.Places.{some_part}
 use Rattle.object_text.specs.TreeMaps.{Listing, NoMore, OneFile, OneFolder, in_folder, is_folder, listing_of, with_file}
 use Rattle.object_text.specs.Trees.{is_name}
-use Rattle.path_trees.specs.Rows.{Rows}
+use Rattle.seq_base.specs.PathMaps.{Entries}
 use Rattle.path_trees.proofs.Order.{has_no_slash}
 
 -- a row of a folder, seen from the folder that lists that one
@@ -20,7 +20,7 @@ abbrev pub in_front : List ℕ → List ℕ × Entry → List ℕ × Entry
 in_front name r = (name ++ 47 ∷ r.0, r.1)
 
 -- what is listed, at its path
-unfoldable pub rows_in : Listing → Rows
+unfoldable pub rows_in : Listing → Entries
 rows_in NoMore = []
 rows_in (OneFile name entry others) = (name, entry) ∷ rows_in others
 rows_in (OneFolder name its others) = map (in_front name) (rows_in its) ++ rows_in others
@@ -58,16 +58,16 @@ ListsAt path entry change = (listing : Listing) → rows_in (change listing) ≡
 
 rows_in_folder : (name path : List ℕ) (entry : Entry) (change : Listing → Listing) → ListsAt path entry change → ListsAt (name ++ 47 ∷ path) entry (in_folder name change)
 unfolding rows_in
-rows_in_folder name path entry change lists NoMore = ap (λ (rows : Rows). map (in_front name) rows ++ []) (lists NoMore)
-rows_in_folder name path entry change lists (OneFile first other others) = ap (λ (rows : Rows). map (in_front name) rows ++ (first, other) ∷ rows_in others) (lists NoMore)
+rows_in_folder name path entry change lists NoMore = ap (λ (rows : Entries). map (in_front name) rows ++ []) (lists NoMore)
+rows_in_folder name path entry change lists (OneFile first other others) = ap (λ (rows : Entries). map (in_front name) rows ++ (first, other) ∷ rows_in others) (lists NoMore)
 rows_in_folder name path entry change lists (OneFolder first its others) = at (bytes_eq first name) refl
   where
     at : (same : Bool) → bytes_eq first name ≡ same
         → rows_in (cond same (OneFolder name (change its) others) (OneFolder name (change NoMore) (OneFolder first its others))) ≡ (name ++ 47 ∷ path, entry) ∷ rows_in (OneFolder first its others)
     at true is =
-        ap (λ (rows : Rows). map (in_front name) rows ++ rows_in others) (lists its)
+        ap (λ (rows : Entries). map (in_front name) rows ++ rows_in others) (lists its)
         ∙ ap (λ (n : List ℕ). (name ++ 47 ∷ path, entry) ∷ (map (in_front n) (rows_in its) ++ rows_in others)) (sym (bytes_same first name is))
-    at false is = ap (λ (rows : Rows). map (in_front name) rows ++ rows_in (OneFolder first its others)) (lists NoMore)
+    at false is = ap (λ (rows : Entries). map (in_front name) rows ++ rows_in (OneFolder first its others)) (lists NoMore)
 
 rows_with : (name : List ℕ) (more : List (List ℕ)) (entry : Entry) → ListsAt (join_with_byte 47 (name ∷ more)) entry (with_file (name ∷ more) entry)
 unfolding with_file rows_in
@@ -112,23 +112,23 @@ path_parts path = by (parts path) refl
 pub joined : (path : List ℕ) (has : HasParts path) → join_with_byte 47 (has.first ∷ has.more) ≡ path
 joined path has = ap (join_with_byte 47) (sym has.parts_are) ∙ join_with_byte-slice_split 47 path
 
-pub rows_listed : (rows : Rows) → rows_in (listing_of rows) ≡ rows
+pub rows_listed : (rows : Entries) → rows_in (listing_of rows) ≡ rows
 unfolding listing_of rows_in
 rows_listed [] = refl
 rows_listed (e ∷ es) =
     let has = path_parts e.0 in
     ap (λ (ps : List (List ℕ)). rows_in (with_file ps e.1 (listing_of es))) has.parts_are
-    ∙ (rows_with has.first has.more e.1 (listing_of es) ∙ (ap (λ (p : List ℕ). (p, e.1) ∷ rows_in (listing_of es)) (joined e.0 has) ∙ ap (λ (rs : Rows). e ∷ rs) (rows_listed es)))
+    ∙ (rows_with has.first has.more e.1 (listing_of es) ∙ (ap (λ (p : List ℕ). (p, e.1) ∷ rows_in (listing_of es)) (joined e.0 has) ∙ ap (λ (rs : Entries). e ∷ rs) (rows_listed es)))
 
 -- the parts of all paths are names
-abbrev pub HaveNames : Rows → Type 0
+abbrev pub HaveNames : Entries → Type 0
 HaveNames = AllByRecursion (λ e. list_all is_name (parts e.0) ≡ true)
 
 -- all are files
-abbrev pub AreFiles : Rows → Type 0
+abbrev pub AreFiles : Entries → Type 0
 AreFiles = AllByRecursion (λ e. is_folder e.1.mode ≡ false)
 
-pub listing_whole : (rows : Rows) → HaveNames rows → AreFiles rows → IsWhole (listing_of rows)
+pub listing_whole : (rows : Entries) → HaveNames rows → AreFiles rows → IsWhole (listing_of rows)
 unfolding listing_of
 listing_whole [] names files = tt
 listing_whole (e ∷ es) names files =
@@ -142,7 +142,7 @@ pub parts_in_front : (name path : List ℕ) → has_no_slash name ≡ true → p
 parts_in_front name path none =
     slice_split_at (λ b. b == 47) name 47 path (All-weaker (λ b. not (b == 47) ≡ true) (λ b. (b == 47) ≡ false) (λ b is. not-true (b == 47) is) name (AllPass-from_list_all (λ b. not (b == 47)) name none)) refl
 
-pub file_listed : (path : List ℕ) (entry : Entry) (rows : Rows) → parts path ≡ path ∷ [] → listing_of ((path, entry) ∷ rows) ≡ OneFile path entry (listing_of rows)
+pub file_listed : (path : List ℕ) (entry : Entry) (rows : Entries) → parts path ≡ path ∷ [] → listing_of ((path, entry) ∷ rows) ≡ OneFile path entry (listing_of rows)
 unfolding listing_of with_file
 file_listed path entry rows one = ap (λ (ps : List (List ℕ)). with_file ps entry (listing_of rows)) one
 
@@ -154,7 +154,7 @@ new_folder name change (OneFolder first its others) other = ap (λ (same : Bool)
 old_folder : (name : List ℕ) (change : Listing → Listing) (its others : Listing) → in_folder name change (OneFolder name its others) ≡ OneFolder name (change its) others
 old_folder name change its others = ap (λ (same : Bool). cond same (OneFolder name (change its) others) (OneFolder name (change NoMore) (OneFolder name its others))) ((bytes_eq-Decides name name).1 refl)
 
-pub folder_listed : (name : List ℕ) (e : List ℕ × Entry) (es others : Rows) → has_no_slash name ≡ true → IsOther name (listing_of others)
+pub folder_listed : (name : List ℕ) (e : List ℕ × Entry) (es others : Entries) → has_no_slash name ≡ true → IsOther name (listing_of others)
     → listing_of (map (in_front name) (e ∷ es) ++ others) ≡ OneFolder name (listing_of (e ∷ es)) (listing_of others)
 unfolding listing_of
 folder_listed name e [] others none other =
@@ -167,7 +167,7 @@ folder_listed name e (d ∷ es) others none other =
     ∙ old_folder name (with_file (parts e.0) e.1) (listing_of (d ∷ es)) (listing_of others)))
 
 -- a map that does not begin below a folder does not list it first
-pub other_listed : (name : List ℕ) (rows : Rows) → ((e : List ℕ × Entry) (es : Rows) → rows ≡ e ∷ es → (path : List ℕ) → e.0 ≡ name ++ 47 ∷ path → ⊥) → IsOther name (listing_of rows)
+pub other_listed : (name : List ℕ) (rows : Entries) → ((e : List ℕ × Entry) (es : Entries) → rows ≡ e ∷ es → (path : List ℕ) → e.0 ≡ name ++ 47 ∷ path → ⊥) → IsOther name (listing_of rows)
 unfolding listing_of with_file
 other_listed name [] outside = tt
 other_listed name (e ∷ es) outside =

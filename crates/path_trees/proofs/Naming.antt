@@ -1,5 +1,5 @@
 -- What is told of what was read of a tree, and of trees that were not put.
-use Rattle.std.proofs.Common.{◌≡◌, ℕ, Bool, true, false, length, Option, Some, None, Result, Ok, Err, refl, subst, ◌∙◌, arith}
+use Rattle.std.proofs.Common.{◌≡◌, ℕ, Bool, List, true, false, length, Option, Some, None, Result, Ok, Err, refl, subst, ◌∙◌, arith}
 use Rattle.std.specs.Prelude.{nat_le, option_and_then}
 use Rattle.std.specs.FinMap as held
 use Rattle.std.proofs.lemmas.Bool.Decides.{nat_tests}
@@ -12,6 +12,7 @@ use Rattle.object_text.specs.TreeMaps.{map_at}
 use Rattle.object_text.proofs.ObjectLaws.{object_reads}
 use Rattle.objects.proofs.Naming.{size_told}
 use Rattle.seq_base.specs.Words.{Id, Text}
+use Rattle.seq_base.specs.declared.map.Entry.{Entry}
 use Rattle.seq_base.specs.World.{World}
 use Rattle.seq_outside.specs.Halts.{Denies, halt_cause}
 use Rattle.seq_outside.specs.Causes.{Rose}
@@ -24,7 +25,7 @@ use Rattle.path_trees.specs.Halts.{halt_of_put, halt_of_read}
 use Rattle.path_trees.specs.Named.{map_named}
 use Rattle.path_trees.specs.Puts.{HasPut}
 use Rattle.path_trees.specs.Reads.{Blames, IsBadOnly}
-use Rattle.path_trees.specs.Rows.{Rows}
+use Rattle.seq_base.specs.PathMaps.{Entries}
 use Rattle.path_trees.specs.declared.fault.TreeFault.{TreeFault}
 use Rattle.path_trees.specs.declared.fault.TreeFault.TheVariants.{BadObject, TooLarge, Depth, Blocked, Fault, Memory}
 
@@ -45,12 +46,12 @@ bad_only w id bad = file (held.get w (object_path id)) refl
     file None is = refl
     file (Some text) is = object text is (object_from text) refl
 
-pub map_ok : (w : World) (id : Id) (m : Rows) → map_at w id ≡ Ok m → map_named w id ≡ Ok m
+pub map_ok : (w : World) (id : Id) (m : Entries) → map_at w id ≡ Ok m → map_named w id ≡ Ok m
 unfolding map_named
 map_ok w id m is = rw is refl
 
 -- what is told of a tree that has no map
-pub map_err : (w : World) (id : Id) (fault : TreeFault) → Blames w fault (map_at w id) → Denies {Y = Rows} (halt_of_read fault) (map_named w id)
+pub map_err : (w : World) (id : Id) (fault : TreeFault) → Blames w fault (map_at w id) → Denies {Y = List (List ℕ × Entry)} (halt_of_read fault) (map_named w id)
 unfolding map_named
 map_err w id (BadObject bad) (is, only) = rw (is, bad_only w bad only) refl
 map_err w id (TooLarge count) (bad, is, large) = rw (is, size_told w bad count large) refl

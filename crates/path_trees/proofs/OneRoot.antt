@@ -5,7 +5,7 @@ use Rattle.std.specs.Str.{bytes_eq}
 use Rattle.std.proofs.lemmas.List.Elements.{Contains-append_left, Contains-append_right}
 use Rattle.std.proofs.lemmas.Slice.Eq.{bytes_eq-Decides}
 use Rattle.seq_base.specs.Paths.{IsPath}
-use Rattle.seq_base.specs.PathMaps.{IsPathMap}
+use Rattle.seq_base.specs.PathMaps.{IsPathMap, Entries}
 use Rattle.seq_base.specs.declared.map.Entry.{Entry}
 use Rattle.seq_base.specs.declared.mode.Mode.TheVariants.{Folder}
 use Rattle.object_text.specs.declared.object.Object.{Object}
@@ -19,7 +19,6 @@ use Rattle.object_text.specs.Trees.{HaveIds, IsTreeOrder, tree_text}
 use Rattle.object_text.proofs.Entries.{tree_reads}
 use Rattle.object_text.proofs.ObjectLaws.{object_reads, object_written}
 use Rattle.path_trees.specs.Collisions.{HaveOneId}
-use Rattle.path_trees.specs.Rows.{Rows}
 use Rattle.path_trees.proofs.Folders.{HaveRowIds, are_files}
 use Rattle.path_trees.proofs.Listings.{IsWhole, in_front, listing_whole, rows_in, rows_listed}
 use Rattle.path_trees.proofs.PathNames.{all_names}
@@ -140,7 +139,7 @@ same_file n n' e e' o o' es es' same others = elim (others cc) [
       let heads : entry_at n e ≡ entry_at n' e' = ap (first_of (entry_at n e)) same in
       let entry : e ≡ e' = ap (λ (t : TreeEntry). record { mode = t.mode; id = t.id }) heads in
       let name : n ≡ n' = ap (λ (t : TreeEntry). t.name) heads in
-      inl (ap (λ (k : List ℕ). (k, e) ∷ rows_in o) name ∙ (ap (λ (x : Entry). (n', x) ∷ rows_in o) entry ∙ ap (λ (rs : Rows). (n', e') ∷ rs) rows))
+      inl (ap (λ (k : List ℕ). (k, e) ∷ rows_in o) name ∙ (ap (λ (x : Entry). (n', x) ∷ rows_in o) entry ∙ ap (λ (rs : Entries). (n', e') ∷ rs) rows))
   | inr at ↦ inr (wider (folder_trees o) (folder_trees o') (folder_trees (OneFile n e o)) (folder_trees (OneFile n' e' o')) (in_file_others n e o) (in_file_others n' e' o') at)
 ]
 
@@ -161,7 +160,7 @@ same_folder n n' its its' o o' es es' good good' same inner others =
     ]
   where
     both : n ≡ n' → Same its its' → Same o o' → Same (OneFolder n its o) (OneFolder n' its' o')
-    both name (inl rows) (inl later) = inl (ap (λ (k : List ℕ). map (in_front k) (rows_in its) ++ rows_in o) name ∙ (ap (λ (rs : Rows). map (in_front n') rs ++ rows_in o) rows ∙ ap (λ (rs : Rows). map (in_front n') (rows_in its') ++ rs) later))
+    both name (inl rows) (inl later) = inl (ap (λ (k : List ℕ). map (in_front k) (rows_in its) ++ rows_in o) name ∙ (ap (λ (rs : Entries). map (in_front n') rs ++ rows_in o) rows ∙ ap (λ (rs : Entries). map (in_front n') (rows_in its') ++ rs) later))
     both name (inl rows) (inr at) = inr (wider (folder_trees o) (folder_trees o') (folder_trees (OneFolder n its o)) (folder_trees (OneFolder n' its' o')) (in_others n its o) (in_others n' its' o') at)
     both name (inr at) later = inr (wider (folder_trees its) (folder_trees its') (folder_trees (OneFolder n its o)) (folder_trees (OneFolder n' its' o')) (in_its n its o) (in_its n' its' o') at)
 
@@ -186,7 +185,7 @@ same_listing (OneFolder n its o) (OneFolder n' its' o') sl sm same =
 
 -- ---- maps
 
-pub one_root : (rows others : Rows) → IsPathMap rows → IsPathMap others → AllByRecursion (λ e. IsPath e.0) rows → AllByRecursion (λ e. IsPath e.0) others → HaveRowIds rows → HaveRowIds others
+pub one_root : (rows others : Entries) → IsPathMap rows → IsPathMap others → AllByRecursion (λ e. IsPath e.0) rows → AllByRecursion (λ e. IsPath e.0) others → HaveRowIds rows → HaveRowIds others
     → AllByRecursion IsSmall (trees_of rows) → AllByRecursion IsSmall (trees_of others) → root_of rows ≡ root_of others → (rows ≡ others) ⊎ HaveOneId (trees_of rows) (trees_of others)
 unfolding root_of trees_of
 one_root rows others map_is others_map paths others_paths ids others_ids small others_small same =
@@ -212,7 +211,7 @@ one_root rows others map_is others_map paths others_paths ids others_ids small o
       })
     ]
   where
-    sound : (rows : Rows) → IsPathMap rows → AllByRecursion (λ e. IsPath e.0) rows → HaveRowIds rows → AllByRecursion IsSmall (folder_trees (listing_of rows)) → IsSound (listing_of rows)
+    sound : (rows : Entries) → IsPathMap rows → AllByRecursion (λ e. IsPath e.0) rows → HaveRowIds rows → AllByRecursion IsSmall (folder_trees (listing_of rows)) → IsSound (listing_of rows)
     sound rows is paths ids small =
         let listed = sym (rows_listed rows) in
         record { whole = listing_whole rows (all_names rows paths) (are_files rows is.files); apart = subst AllApart listed (map_apart rows is); ids = subst HaveRowIds listed ids; small = small }

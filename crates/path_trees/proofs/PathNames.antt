@@ -3,11 +3,10 @@ use Rattle.std.proofs.Common.{◌≡◌, ℕ, ◌+◌, ◌≤◌, ◌==◌, Bool
 use Rattle.std.specs.List.{AllByRecursion, list_all, onto_first}
 use Rattle.std.proofs.lemmas.Bool.{and_from, and_parts}
 use Rattle.seq_base.specs.Paths.{IsPath, first_bad, is_part, is_special, parts}
-use Rattle.seq_base.specs.PathMaps.{IsPathMap}
+use Rattle.seq_base.specs.PathMaps.{IsPathMap, Entries}
 use Rattle.seq_base.proofs.CharFronts.{text_fits}
 use Rattle.object_text.specs.Trees.{is_name, is_name_byte}
 use Rattle.path_trees.specs.Puts.{GoesOnBehind, cut}
-use Rattle.path_trees.specs.Rows.{Rows}
 use Rattle.path_trees.proofs.Listings.{HaveNames}
 
 all_parts : (at : ℕ) (ps : List (List ℕ)) → first_bad at ps ≡ None → list_all is_part ps ≡ true
@@ -78,25 +77,25 @@ parts_named (p ∷ ps) good plain =
 pub path_names : (path : List ℕ) → IsPath path → list_all is_name (parts path) ≡ true
 path_names path is = parts_named (parts path) (all_parts 0 (parts path) is.parts_are) (parts_pass is_plain path (plain_or_slash path (text_fits path is.text)))
 
-pub all_names : (rows : Rows) → AllByRecursion (λ e. IsPath e.0) rows → HaveNames rows
+pub all_names : (rows : Entries) → AllByRecursion (λ e. IsPath e.0) rows → HaveNames rows
 all_names [] paths = tt
 all_names (e ∷ es) paths = (path_names e.0 paths.0, all_names es paths.1)
 
 -- ---- the root, behind no bytes
 
-pub cut_none : (rows : Rows) → cut 0 rows ≡ rows
+pub cut_none : (rows : Entries) → cut 0 rows ≡ rows
 cut_none [] = refl
-cut_none (e ∷ es) = ap (λ (rows : Rows). e ∷ rows) (cut_none es)
+cut_none (e ∷ es) = ap (λ (rows : Entries). e ∷ rows) (cut_none es)
 
-all_short : (rows : Rows) → AllByRecursion (λ e. IsPath e.0) rows → AllByRecursion (λ e. length e.0 ≤ 4095) rows
+all_short : (rows : Entries) → AllByRecursion (λ e. IsPath e.0) rows → AllByRecursion (λ e. length e.0 ≤ 4095) rows
 all_short [] paths = tt
 all_short (e ∷ es) paths = (paths.0.short, all_short es paths.1)
 
-all_long : (rows : Rows) → AllByRecursion (λ e. 0 ≤ length e.0) rows
+all_long : (rows : Entries) → AllByRecursion (λ e. 0 ≤ length e.0) rows
 all_long [] = tt
 all_long (e ∷ es) = (omega arith, all_long es)
 
-pub goes_at_root : (rows : Rows) → AllByRecursion (λ e. IsPath e.0) rows → IsPathMap rows → GoesOnBehind 0 rows
+pub goes_at_root : (rows : Entries) → AllByRecursion (λ e. IsPath e.0) rows → IsPathMap rows → GoesOnBehind 0 rows
 goes_at_root rows paths is = record {
   long = all_long rows;
   short = all_short rows paths;

@@ -22,7 +22,8 @@ use Rattle.object_text.specs.declared.tree.TreeEntry.{TreeEntry}
 use Rattle.object_text.specs.TreeMaps.{below, is_path_text}
 use Rattle.object_text.specs.Trees.{IsTreeOrder, is_name, is_name_byte}
 use Rattle.path_trees.specs.Faults.{path_fault_at}
-use Rattle.path_trees.specs.Rows.{GivesRows, IsFolder, Rows, has_path, row_at}
+use Rattle.seq_base.specs.PathMaps.{Entries}
+use Rattle.path_trees.specs.Rows.{GivesRows, IsFolder, has_path, row_at}
 use Rattle.path_trees.specs.declared.fault.TreeFault.TheVariants.{BadObject, Memory}
 use Rattle.path_trees.proofs.Order.{name_no_slash}
 
@@ -101,7 +102,7 @@ fails_path folder name id paths.Memory is h fault = inl refl
 -- ---- the loop, which takes entries from the end
 
 -- those behind what is left have been taken, their rows the last first
-pub record HasTaken (folder : List ℕ) (es left : List TreeEntry) (rows : Rows) : Type 0 where
+pub record HasTaken (folder : List ℕ) (es left : List TreeEntry) (rows : Entries) : Type 0 where
   pub done : List TreeEntry
   pub parts_are : es ≡ left ++ done
   pub rows_are : rows ≡ reverse (map (row_at folder) done)
@@ -110,11 +111,11 @@ pub record HasTaken (folder : List ℕ) (es left : List TreeEntry) (rows : Rows)
 pub none_taken : (folder : List ℕ) (es : List TreeEntry) → HasTaken folder es es []
 none_taken folder es = record { done = []; parts_are = sym (append-nil es); rows_are = refl; good = refl }
 
-pub one_taken : (folder : List ℕ) (es left : List TreeEntry) (e : TreeEntry) (rows now : Rows) → HasTaken folder es (left ++ e ∷ []) rows → has_path folder e ≡ true → now ≡ rows ++ row_at folder e ∷ [] → HasTaken folder es left now
+pub one_taken : (folder : List ℕ) (es left : List TreeEntry) (e : TreeEntry) (rows now : Entries) → HasTaken folder es (left ++ e ∷ []) rows → has_path folder e ≡ true → now ≡ rows ++ row_at folder e ∷ [] → HasTaken folder es left now
 one_taken folder es left e rows now taken good is = record {
   done = e ∷ taken.done;
   parts_are = taken.parts_are ∙ append_assoc left (e ∷ []) taken.done;
-  rows_are = is ∙ (ap (λ (rs : Rows). rs ++ row_at folder e ∷ []) taken.rows_are ∙ sym (reverse-append (row_at folder e ∷ []) (map (row_at folder) taken.done)));
+  rows_are = is ∙ (ap (λ (rs : Entries). rs ++ row_at folder e ∷ []) taken.rows_are ∙ sym (reverse-append (row_at folder e ∷ []) (map (row_at folder) taken.done)));
   good = and_from (has_path folder e) (list_all (has_path folder) taken.done) good taken.good;
 }
 
@@ -125,16 +126,16 @@ tree_order_name : (left : List TreeEntry) (e : TreeEntry) (done : List TreeEntry
 tree_order_name [] e done order = order.0
 tree_order_name (d ∷ left) e done order = tree_order_name left e done order.2
 
-pub taken_name : (folder : List ℕ) (es left : List TreeEntry) (e : TreeEntry) (rows : Rows) → HasTaken folder es (left ++ e ∷ []) rows → IsTreeOrder es → is_name e.name ≡ true
+pub taken_name : (folder : List ℕ) (es left : List TreeEntry) (e : TreeEntry) (rows : Entries) → HasTaken folder es (left ++ e ∷ []) rows → IsTreeOrder es → is_name e.name ≡ true
 taken_name folder es left e rows taken order = tree_order_name left e taken.done (subst IsTreeOrder (taken.parts_are ∙ append_assoc left (e ∷ []) taken.done) order)
 
-pub none_has_path : (folder : List ℕ) (es left : List TreeEntry) (e : TreeEntry) (rows : Rows) → HasTaken folder es (left ++ e ∷ []) rows → has_path folder e ≡ false → list_all (has_path folder) es ≡ false
+pub none_has_path : (folder : List ℕ) (es left : List TreeEntry) (e : TreeEntry) (rows : Entries) → HasTaken folder es (left ++ e ∷ []) rows → has_path folder e ≡ false → list_all (has_path folder) es ≡ false
 none_has_path folder es left e rows taken bad =
     ap (list_all (has_path folder)) (taken.parts_are ∙ append_assoc left (e ∷ []) taken.done)
     ∙ (list_all-append (has_path folder) left (e ∷ taken.done) ∙ rw bad (so_false (list_all (has_path folder) left)))
 
 -- what is answered where a path is none
-pub rows_fail : (folder id : List ℕ) (es left : List TreeEntry) (e : TreeEntry) (rows : Rows) (fault : PathFault) → HasTaken folder es (left ++ e ∷ []) rows → IsTreeOrder es → IsFolder folder → IsPathFaultOrMemory (below folder e.name) fault
+pub rows_fail : (folder id : List ℕ) (es left : List TreeEntry) (e : TreeEntry) (rows : Entries) (fault : PathFault) → HasTaken folder es (left ++ e ∷ []) rows → IsTreeOrder es → IsFolder folder → IsPathFaultOrMemory (below folder e.name) fault
     → GivesRows folder id es (Err (path_fault_at id fault))
 rows_fail folder id es left e rows fault taken order is bad =
     elim (fails_path folder e.name id fault is (taken_name folder es left e rows taken order) bad) [

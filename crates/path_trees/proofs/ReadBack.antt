@@ -11,7 +11,7 @@ use Rattle.std.proofs.lemmas.List.{map-append}
 use Rattle.std.proofs.lemmas.Str.{IsCharBoundary-before_ascii, IsUtf8-take, utf8_valid_len-IsUtf8}
 use Rattle.std.proofs.Math.Seq.{get_or-append_seam, take-append_seam}
 use Rattle.seq_base.specs.Paths.{IsPath, parts}
-use Rattle.seq_base.specs.PathMaps.{IsPathMap}
+use Rattle.seq_base.specs.PathMaps.{IsPathMap, Entries}
 use Rattle.seq_base.specs.Words.{Id}
 use Rattle.seq_base.specs.World.{World}
 use Rattle.seq_base.specs.declared.map.Entry.{Entry}
@@ -27,14 +27,13 @@ use Rattle.seq_outside.specs.declared.lack.Lack.TheVariants.{Limit}
 use Rattle.seq_outside.specs.declared.limit.LimitWhat.TheVariants.{TreeDepth}
 use Rattle.objects.proofs.Writing.{file_stays, free_file, object_of_file}
 use Rattle.path_trees.specs.Puts.{HasPut, folder_put, trees_put}
-use Rattle.path_trees.specs.Rows.{Rows}
 use Rattle.path_trees.specs.declared.fault.TreeFault.{TreeFault}
 use Rattle.path_trees.proofs.Folders.{HaveRowIds, are_files, was_folder_put}
 use Rattle.path_trees.proofs.Listings.{IsWhole, in_front, listing_whole, parts_in_front, rows_in, rows_listed}
 use Rattle.path_trees.proofs.Order.{name_no_slash}
 use Rattle.path_trees.proofs.PathNames.{all_names}
 use Rattle.path_trees.proofs.Paths.{some_below}
-use Rattle.path_trees.proofs.Puts.{all_put, each_was_put, unit, was_put, were_put}
+use Rattle.path_trees.proofs.Puts.{all_put, each_was_put, was_put, were_put}
 use Rattle.path_trees.proofs.TreeOrder.{AllApart, all_back, all_front, apart_back, apart_front, apart_inner, first_row, map_apart, tree_ordered}
 use Rattle.path_trees.proofs.Trees.{tree_spelled}
 
@@ -70,7 +69,7 @@ found w tree order ids stands =
 
 -- ---- the trees of a listing can be read
 
-pub inner_ids : (name : List ℕ) (rows : Rows) → HaveRowIds (map (in_front name) rows) → HaveRowIds rows
+pub inner_ids : (name : List ℕ) (rows : Entries) → HaveRowIds (map (in_front name) rows) → HaveRowIds rows
 inner_ids name [] ids = tt
 inner_ids name (e ∷ es) ids = (ids.0, inner_ids name es ids.1)
 
@@ -113,10 +112,10 @@ Fits n (OneFile name entry others) = Fits n others
 Fits zero (OneFolder name its others) = ⊥
 Fits (suc n) (OneFolder name its others) = Fits n its × Fits (suc n) others
 
-abbrev HaveDepth : ℕ → Rows → Type 0
+abbrev HaveDepth : ℕ → Entries → Type 0
 HaveDepth n = AllByRecursion (λ e. length (parts e.0) ≤ n)
 
-inner_depth : (name : List ℕ) (n : ℕ) (rows : Rows) → is_name name ≡ true → HaveDepth (suc n) (map (in_front name) rows) → HaveDepth n rows
+inner_depth : (name : List ℕ) (n : ℕ) (rows : Entries) → is_name name ≡ true → HaveDepth (suc n) (map (in_front name) rows) → HaveDepth n rows
 inner_depth name n [] named deep = tt
 inner_depth name n (e ∷ es) named deep =
     let size = ap (length {A = List ℕ}) (parts_in_front name e.0 (name_no_slash name named)) in
@@ -129,7 +128,7 @@ fits NoMore n whole deep = tt
 fits (OneFile name entry others) n whole deep = fits others n whole.2 deep.1
 fits (OneFolder name its others) zero whole deep =
     let first = first_row its whole.1 whole.2 in
-    let inner = subst (λ (rows : Rows). HaveDepth 1 (map (in_front name) rows)) first.rows_are (all_front (λ e. length (parts e.0) ≤ 1) (map (in_front name) (rows_in its)) (rows_in others) deep) in
+    let inner = subst (λ (rows : Entries). HaveDepth 1 (map (in_front name) rows)) first.rows_are (all_front (λ e. length (parts e.0) ≤ 1) (map (in_front name) (rows_in its)) (rows_in others) deep) in
     let low = inner.0 in
     let size = ap (length {A = List ℕ}) (parts_in_front name first.row.0 (name_no_slash name whole.0)) in
     let some = some_part first.row.0 in
@@ -169,7 +168,7 @@ front_text front rest is =
 abbrev at_folder : List ℕ → List ℕ × Entry → List ℕ × Entry
 at_folder folder r = (below folder r.0, r.1)
 
-abbrev AreText : List ℕ → Rows → Type 0
+abbrev AreText : List ℕ → Entries → Type 0
 AreText folder = AllByRecursion (λ r. IsText (below folder r.0))
 
 below_more : (folder name rest : List ℕ) → below folder (name ++ 47 ∷ rest) ≡ below folder name ++ 47 ∷ rest
@@ -183,15 +182,15 @@ below_some (c ∷ folder) rest some = append_assoc (c ∷ folder) (47 ∷ []) re
 below_folder : (folder name rest : List ℕ) → is_name name ≡ true → below folder (name ++ 47 ∷ rest) ≡ below (below folder name) rest
 below_folder folder name rest named = below_more folder name rest ∙ sym (below_some (below folder name) rest (some_below folder name named))
 
-inner_texts : (folder name : List ℕ) (rows : Rows) → is_name name ≡ true → AreText folder (map (in_front name) rows) → AreText (below folder name) rows
+inner_texts : (folder name : List ℕ) (rows : Entries) → is_name name ≡ true → AreText folder (map (in_front name) rows) → AreText (below folder name) rows
 inner_texts folder name [] named text = tt
 inner_texts folder name (e ∷ es) named text = (subst IsText (below_folder folder name e.0 named) text.0, inner_texts folder name es named text.1)
 
-inner_rows : (folder name : List ℕ) (rows : Rows) → is_name name ≡ true → map (at_folder (below folder name)) rows ≡ map (at_folder folder) (map (in_front name) rows)
+inner_rows : (folder name : List ℕ) (rows : Entries) → is_name name ≡ true → map (at_folder (below folder name)) rows ≡ map (at_folder folder) (map (in_front name) rows)
 inner_rows folder name [] named = refl
 inner_rows folder name (e ∷ es) named =
     ap (λ (p : List ℕ). (p, e.1) ∷ map (at_folder (below folder name)) es) (sym (below_folder folder name e.0 named))
-    ∙ ap (λ (rows : Rows). at_folder folder (in_front name e) ∷ rows) (inner_rows folder name es named)
+    ∙ ap (λ (rows : Entries). at_folder folder (in_front name e) ∷ rows) (inner_rows folder name es named)
 
 paths_pass : (folder : List ℕ) (listing : Listing) → IsWhole listing → AreText folder (rows_in listing) → list_all (λ e. is_path_text (below folder e.name)) (tree_entries listing) ≡ true
 unfolding rows_in tree_entries
@@ -200,7 +199,7 @@ paths_pass folder (OneFile name entry others) whole text =
     and_from (is_path_text (below folder name)) (list_all (λ e. is_path_text (below folder e.name)) (tree_entries others)) (text_passes (below folder name) text.0) (paths_pass folder others whole.2 text.1)
 paths_pass folder (OneFolder name its others) whole text =
     let first = first_row its whole.1 whole.2 in
-    let inner = subst (λ (rows : Rows). AreText folder (map (in_front name) rows)) first.rows_are (all_front (λ r. IsText (below folder r.0)) (map (in_front name) (rows_in its)) (rows_in others) text) in
+    let inner = subst (λ (rows : Entries). AreText folder (map (in_front name) rows)) first.rows_are (all_front (λ r. IsText (below folder r.0)) (map (in_front name) (rows_in its)) (rows_in others) text) in
     let front = front_text (below folder name) first.row.0 (subst IsText (below_more folder name first.row.0) inner.0) in
     and_from (is_path_text (below folder name)) (list_all (λ e. is_path_text (below folder e.name)) (tree_entries others)) (text_passes (below folder name) front)
     (paths_pass folder others whole.4 (all_back (λ r. IsText (below folder r.0)) (map (in_front name) (rows_in its)) (rows_in others) text))
@@ -216,7 +215,7 @@ unfolding entries_map rows_in tree_entries
 reads w NoMore n folder whole at fits text = refl
 reads w (OneFile name entry others) n folder whole at fits text =
     ap (λ (t : Bool). cond t (map_below n w (below folder name) entry.id) (Ok ((below folder name, record { mode = entry.mode; id = entry.id }) ∷ [])) >>= λ first. entries_map (map_below n w) folder (tree_entries others) >>= λ later. Ok (first ++ later)) whole.1
-    ∙ ap (λ (r : Result Rows MapFault). r >>= λ later. Ok ((below folder name, entry) ∷ later)) (reads w others n folder whole.2 at fits text.1)
+    ∙ ap (λ (r : Result Entries MapFault). r >>= λ later. Ok ((below folder name, entry) ∷ later)) (reads w others n folder whole.2 at fits text.1)
 reads w (OneFolder name its others) zero folder whole at fits text = absurd fits
 reads w (OneFolder name its others) (suc n) folder whole at fits text =
     let inner = map (in_front name) (rows_in its) in
@@ -225,12 +224,12 @@ reads w (OneFolder name its others) (suc n) folder whole at fits text =
     opens n w (below folder name) (tree_id (tree_entries its)) (tree_entries its) at.0 (paths_pass (below folder name) its whole.2 its_text)
     ∙ (reads w its n (below folder name) whole.2 at.1 fits.0 its_text ∙ ap Ok (inner_rows folder name (rows_in its) whole.0)) in
     let later = reads w others (suc n) folder whole.4 at.2 fits.1 (all_back (λ r. IsText (below folder r.0)) inner (rows_in others) text) in
-    ap (λ (r : Result Rows MapFault). r >>= λ rows. entries_map (map_below (suc n) w) folder (tree_entries others) >>= λ more. Ok (rows ++ more)) first
-    ∙ (ap (λ (r : Result Rows MapFault). r >>= λ more. Ok (map (at_folder folder) inner ++ more)) later ∙ ap Ok (sym (map-append (at_folder folder) inner (rows_in others))))
+    ap (λ (r : Result Entries MapFault). r >>= λ rows. entries_map (map_below (suc n) w) folder (tree_entries others) >>= λ more. Ok (rows ++ more)) first
+    ∙ (ap (λ (r : Result Entries MapFault). r >>= λ more. Ok (map (at_folder folder) inner ++ more)) later ∙ ap Ok (sym (map-append (at_folder folder) inner (rows_in others))))
 
 -- ---- the root
 
-all_depth : (rows : Rows) → list_any (λ e. nat_lt 256 (length (parts e.0))) rows ≡ false → HaveDepth 256 rows
+all_depth : (rows : Entries) → list_any (λ e. nat_lt 256 (length (parts e.0))) rows ≡ false → HaveDepth 256 rows
 all_depth [] low = tt
 all_depth (e ∷ es) low = by (nat_lt 256 (length (parts e.0))) refl (all_depth es) low
   where
@@ -238,15 +237,15 @@ all_depth (e ∷ es) low = by (nat_lt 256 (length (parts e.0))) refl (all_depth 
     by true is later low = absurd cc
     by false is later low = (grind (arith, nat_tests), later low)
 
-all_text : (rows : Rows) → AllByRecursion (λ e. IsPath e.0) rows → AreText [] rows
+all_text : (rows : Entries) → AllByRecursion (λ e. IsPath e.0) rows → AreText [] rows
 all_text [] paths = tt
 all_text (e ∷ es) paths = (record { short = paths.0.short; text = paths.0.text }, all_text es paths.1)
 
-at_root : (rows : Rows) → map (at_folder []) rows ≡ rows
+at_root : (rows : Entries) → map (at_folder []) rows ≡ rows
 at_root [] = refl
-at_root (e ∷ es) = ap (λ (rows : Rows). e ∷ rows) (at_root es)
+at_root (e ∷ es) = ap (λ (rows : Entries). e ∷ rows) (at_root es)
 
-pub written_back : (w now : World) (rows : Rows) → IsPathMap rows → AllByRecursion (λ e. IsPath e.0) rows → HaveRowIds rows → is_too_deep rows ≡ false → put_trees w (trees_of rows) ≡ Ok now → map_at now (root_of rows) ≡ Ok rows
+pub written_back : (w now : World) (rows : Entries) → IsPathMap rows → AllByRecursion (λ e. IsPath e.0) rows → HaveRowIds rows → is_too_deep rows ≡ false → put_trees w (trees_of rows) ≡ Ok now → map_at now (root_of rows) ≡ Ok rows
 unfolding map_at root_of trees_of is_too_deep
 written_back w now rows is paths ids low put =
     let listing = listing_of rows in
@@ -264,21 +263,21 @@ written_back w now rows is paths ids low put =
 -- ---- what was written
 
 -- as if the objects of the trees were put
-pub objects_put : (rows : Rows) (w now : World) (r : Result Id TreeFault) → HasPut r (folder_put rows w) now → OnOk r (put_all w (map tree_object (trees_of rows)) ≡ record { world = now; collision = None })
+pub objects_put : (rows : Entries) (w now : World) (r : Result Id TreeFault) → HasPut r (folder_put rows w) now → OnOk r (put_all w (map tree_object (trees_of rows)) ≡ record { world = now; collision = None })
 objects_put rows w now (Ok id) put = all_put w (trees_of rows) now (each_was_put (trees_of rows) w now (was_folder_put rows w id now put))
 objects_put rows w now (Err e) put = tt
 
 -- the map of the root is the map
-pub reads_back : (rows : Rows) (w now : World) (r : Result Id TreeFault) → IsPathMap rows → AllByRecursion (λ e. IsPath e.0) rows → OnOk r (HaveRowIds rows) → is_too_deep rows ≡ false → IfOk r (λ root. root ≡ root_of rows)
+pub reads_back : (rows : Entries) (w now : World) (r : Result Id TreeFault) → IsPathMap rows → AllByRecursion (λ e. IsPath e.0) rows → OnOk r (HaveRowIds rows) → is_too_deep rows ≡ false → IfOk r (λ root. root ≡ root_of rows)
     → HasPut r (folder_put rows w) now → IfOk r (λ root. map_at now root ≡ Ok rows)
 reads_back rows w now (Ok id) is paths ids low root put = ap (map_at now) root ∙ written_back w now rows is paths ids low (each_was_put (trees_of rows) w now (was_folder_put rows w id now put))
 reads_back rows w now (Err e) is paths ids low root put = tt
 
 -- a map none of whose trees lies too deep, and another
-pub shallow_put : (rows : Rows) (w : World) → is_too_deep rows ≡ false → trees_put rows w ≡ folder_put rows w
+pub shallow_put : (rows : Entries) (w : World) → is_too_deep rows ≡ false → trees_put rows w ≡ folder_put rows w
 unfolding trees_put
 shallow_put rows w low = rw low refl
 
-pub too_deep : (rows : Rows) (w : World) → is_too_deep rows ≡ true → trees_put rows w ≡ (Err (Limit TreeDepth 257), w)
+pub too_deep : (rows : Entries) (w : World) → is_too_deep rows ≡ true → trees_put rows w ≡ (Err (Limit TreeDepth 257), w)
 unfolding trees_put
 too_deep rows w deep = rw deep refl

@@ -7,7 +7,7 @@ use Rattle.std.specs.Str.{bytes_eq}
 use Rattle.std.proofs.lemmas.Bool.{and_parts}
 use Rattle.std.proofs.lemmas.List.{append-nil}
 use Rattle.std.proofs.lemmas.Slice.Eq.{bytes_eq-Decides}
-use Rattle.seq_base.specs.PathMaps.{AreApart, HoldsFiles, IsAscending, IsPathMap, clashes, is_less}
+use Rattle.seq_base.specs.PathMaps.{AreApart, HoldsFiles, IsAscending, IsPathMap, clashes, is_less, Entries}
 use Rattle.seq_base.specs.declared.map.Entry.{Entry}
 use Rattle.seq_base.specs.declared.mode.Mode.{Mode}
 use Rattle.seq_base.specs.declared.mode.Mode.TheVariants.{Folder}
@@ -15,7 +15,6 @@ use Rattle.seq_base.proofs.Maps.{less_antisymmetric}
 use Rattle.object_text.specs.declared.tree.TreeEntry.{TreeEntry}
 use Rattle.object_text.specs.TreeMaps.{Listing, NoMore, OneFile, OneFolder, is_folder, tree_entries, tree_id}
 use Rattle.object_text.specs.Trees.{IsBefore, IsTreeOrder, is_name, key}
-use Rattle.path_trees.specs.Rows.{Rows}
 use Rattle.path_trees.proofs.Listings.{IsOther, IsSome, IsWhole, in_front, rows_in}
 use Rattle.path_trees.proofs.Order.{IsApart, has_no_slash, head_less, key_is, name_no_slash, no_slash, same_free, same_less, swapped, tail}
 
@@ -61,69 +60,69 @@ keys s t ra rb (x ∷ a) (y ∷ b) ha hb other apart =
 -- ---- rows that are all apart
 
 -- each comes before those that follow, and none lies below another
-abbrev pub AllApart : Rows → Type 0
+abbrev pub AllApart : Entries → Type 0
 AllApart [] = Unit {0}
 AllApart (r ∷ rows) = AllByRecursion (λ d. IsApart r.0 d.0) rows × AllApart rows
 
-both : (p : List ℕ) (rows : Rows) → AllByRecursion (λ d. is_less p d.0 ≡ true) rows → AllByRecursion (λ d. clashes p d.0 ≡ false) rows → AllByRecursion (λ d. IsApart p d.0) rows
+both : (p : List ℕ) (rows : Entries) → AllByRecursion (λ d. is_less p d.0 ≡ true) rows → AllByRecursion (λ d. clashes p d.0 ≡ false) rows → AllByRecursion (λ d. IsApart p d.0) rows
 both p [] less free = tt
 both p (r ∷ rows) less free = (record { less = less.0; free = free.0 }, both p rows less.1 free.1)
 
-all_apart : (rows : Rows) → IsAscending rows → AreApart rows → AllApart rows
+all_apart : (rows : Entries) → IsAscending rows → AreApart rows → AllApart rows
 all_apart [] ascending apart = tt
 all_apart (r ∷ rows) ascending apart = (both r.0 rows ascending.0 apart.0, all_apart rows ascending.1 apart.1)
 
-pub map_apart : (rows : Rows) → IsPathMap rows → AllApart rows
+pub map_apart : (rows : Entries) → IsPathMap rows → AllApart rows
 map_apart rows is = all_apart rows is.ascending is.apart
 
-each_less : (p : List ℕ) (rows : Rows) → AllByRecursion (λ d. IsApart p d.0) rows → AllByRecursion (λ d. is_less p d.0 ≡ true) rows
+each_less : (p : List ℕ) (rows : Entries) → AllByRecursion (λ d. IsApart p d.0) rows → AllByRecursion (λ d. is_less p d.0 ≡ true) rows
 each_less p [] apart = tt
 each_less p (r ∷ rows) apart = (apart.0.less, each_less p rows apart.1)
 
-each_free : (p : List ℕ) (rows : Rows) → AllByRecursion (λ d. IsApart p d.0) rows → AllByRecursion (λ d. clashes p d.0 ≡ false) rows
+each_free : (p : List ℕ) (rows : Entries) → AllByRecursion (λ d. IsApart p d.0) rows → AllByRecursion (λ d. clashes p d.0 ≡ false) rows
 each_free p [] apart = tt
 each_free p (r ∷ rows) apart = (apart.0.free, each_free p rows apart.1)
 
-ascends : (rows : Rows) → AllApart rows → IsAscending rows
+ascends : (rows : Entries) → AllApart rows → IsAscending rows
 ascends [] apart = tt
 ascends (r ∷ rows) apart = (each_less r.0 rows apart.0, ascends rows apart.1)
 
-are_free : (rows : Rows) → AllApart rows → AreApart rows
+are_free : (rows : Entries) → AllApart rows → AreApart rows
 are_free [] apart = tt
 are_free (r ∷ rows) apart = (each_free r.0 rows apart.0, are_free rows apart.1)
 
-pub apart_map : (rows : Rows) → AllApart rows → HoldsFiles rows → IsPathMap rows
+pub apart_map : (rows : Entries) → AllApart rows → HoldsFiles rows → IsPathMap rows
 apart_map rows apart files = record { ascending = ascends rows apart; apart = are_free rows apart; files = files }
 
-pub all_front : (P : List ℕ × Entry → Type 0) (xs ys : Rows) → AllByRecursion P (xs ++ ys) → AllByRecursion P xs
+pub all_front : (P : List ℕ × Entry → Type 0) (xs ys : Entries) → AllByRecursion P (xs ++ ys) → AllByRecursion P xs
 all_front P [] ys all = tt
 all_front P (x ∷ xs) ys all = (all.0, all_front P xs ys all.1)
 
-pub all_back : (P : List ℕ × Entry → Type 0) (xs ys : Rows) → AllByRecursion P (xs ++ ys) → AllByRecursion P ys
+pub all_back : (P : List ℕ × Entry → Type 0) (xs ys : Entries) → AllByRecursion P (xs ++ ys) → AllByRecursion P ys
 all_back P [] ys all = all
 all_back P (x ∷ xs) ys all = all_back P xs ys all.1
 
-pub apart_front : (xs ys : Rows) → AllApart (xs ++ ys) → AllApart xs
+pub apart_front : (xs ys : Entries) → AllApart (xs ++ ys) → AllApart xs
 apart_front [] ys apart = tt
 apart_front (x ∷ xs) ys apart = (all_front (λ d. IsApart x.0 d.0) xs ys apart.0, apart_front xs ys apart.1)
 
-pub apart_back : (xs ys : Rows) → AllApart (xs ++ ys) → AllApart ys
+pub apart_back : (xs ys : Entries) → AllApart (xs ++ ys) → AllApart ys
 apart_back [] ys apart = apart
 apart_back (x ∷ xs) ys apart = apart_back xs ys apart.1
 
-one_inner : (name p : List ℕ) (rows : Rows) → AllByRecursion (λ d. IsApart (name ++ 47 ∷ p) d.0) (map (in_front name) rows) → AllByRecursion (λ d. IsApart p d.0) rows
+one_inner : (name p : List ℕ) (rows : Entries) → AllByRecursion (λ d. IsApart (name ++ 47 ∷ p) d.0) (map (in_front name) rows) → AllByRecursion (λ d. IsApart p d.0) rows
 one_inner name p [] apart = tt
 one_inner name p (r ∷ rows) apart = (off 47 p r.0 (front_off name (47 ∷ p) (47 ∷ r.0) apart.0), one_inner name p rows apart.1)
 
-pub apart_inner : (name : List ℕ) (rows : Rows) → AllApart (map (in_front name) rows) → AllApart rows
+pub apart_inner : (name : List ℕ) (rows : Entries) → AllApart (map (in_front name) rows) → AllApart rows
 apart_inner name [] apart = tt
 apart_inner name (r ∷ rows) apart = (one_inner name r.0 rows apart.0, apart_inner name rows apart.1)
 
 -- ---- the entries of a listing
 
-pub record HasFirst (rows : Rows) : Type 0 where
+pub record HasFirst (rows : Entries) : Type 0 where
   pub row : List ℕ × Entry
-  pub others : Rows
+  pub others : Entries
   pub rows_are : rows ≡ row ∷ others
 
 pub first_row : (listing : Listing) → IsSome listing → IsWhole listing → HasFirst (rows_in listing)
@@ -132,7 +131,7 @@ first_row NoMore some whole = absurd some
 first_row (OneFile name entry others) some whole = record { row = (name, entry); others = rows_in others; rows_are = refl }
 first_row (OneFolder name its others) some whole =
     let first = first_row its whole.1 whole.2 in
-    record { row = in_front name first.row; others = map (in_front name) first.others ++ rows_in others; rows_are = ap (λ (rows : Rows). map (in_front name) rows ++ rows_in others) first.rows_are }
+    record { row = in_front name first.row; others = map (in_front name) first.others ++ rows_in others; rows_are = ap (λ (rows : Entries). map (in_front name) rows ++ rows_in others) first.rows_are }
 
 -- a path at or below the entry passes
 record HasPath (P : List ℕ → Type 0) (e : TreeEntry) : Type 0 where
@@ -149,7 +148,7 @@ have_paths P NoMore whole all = tt
 have_paths P (OneFile name entry others) whole all = (record { rest = []; passes = subst P (sym (file_path name entry.mode whole.1)) all.0; named = whole.0 }, have_paths P others whole.2 all.1)
 have_paths P (OneFolder name its others) whole all =
     let first = first_row its whole.1 whole.2 in
-    let inner = subst (λ (rows : Rows). AllByRecursion (λ d. P d.0) (map (in_front name) rows)) first.rows_are (all_front (λ d. P d.0) (map (in_front name) (rows_in its)) (rows_in others) all) in
+    let inner = subst (λ (rows : Entries). AllByRecursion (λ d. P d.0) (map (in_front name) rows)) first.rows_are (all_front (λ d. P d.0) (map (in_front name) (rows_in its)) (rows_in others) all) in
     (record { rest = first.row.0; passes = inner.0; named = whole.0 }, have_paths P others whole.4 (all_back (λ d. P d.0) (map (in_front name) (rows_in its)) (rows_in others) all))
 
 -- not the same folder
@@ -202,7 +201,7 @@ tree_ordered (OneFile name entry others) whole apart =
 tree_ordered (OneFolder name its others) whole apart =
     let first = first_row its whole.1 whole.2 in
     let order = tree_ordered others whole.4 (apart_back (map (in_front name) (rows_in its)) (rows_in others) apart) in
-    let rest = subst (λ (rows : Rows). AllApart (map (in_front name) rows ++ rows_in others)) first.rows_are apart in
+    let rest = subst (λ (rows : Entries). AllApart (map (in_front name) rows ++ rows_in others)) first.rows_are apart in
     let at = have_paths (IsApart (name ++ 47 ∷ first.row.0)) others whole.4 (all_back (λ d. IsApart (name ++ 47 ∷ first.row.0) d.0) (map (in_front name) first.others) (rows_in others) rest.0) in
     let d : TreeEntry = record { mode = Folder; name = name; id = tree_id (tree_entries its) } in
     (whole.0, all_before d first.row.0 (tree_entries others) whole.0 order at (folder_other name (tree_id (tree_entries its)) others whole.3 whole.4), order)

@@ -1,5 +1,5 @@
 -- Which fault is answered, and why the call ended.
-use Rattle.std.specs.Prelude.{ℕ, List}
+use Rattle.seq_base.specs.Words.{Id}
 use Rattle.seq_base.specs.declared.path.PathFault.{PathFault}
 use Rattle.seq_base.specs.declared.path.PathFault.TheVariants as paths
 use Rattle.seq_outside.specs.Seen.{Cause}
@@ -10,7 +10,7 @@ use Rattle.path_trees.specs.declared.fault.TreeFault.{TreeFault}
 use Rattle.path_trees.specs.declared.fault.TreeFault.TheVariants.{BadObject, TooLarge, Depth, Blocked, Fault, Memory}
 
 -- what is answered of an object that was not read
-abbrev pub fault_at : List ℕ → ObjectFault → TreeFault
+abbrev pub fault_at : Id → ObjectFault → TreeFault
 fault_at id objects.Missing = BadObject id
 fault_at id (objects.TooLarge length) = TooLarge length
 fault_at id (objects.WrongHash wanted found) = BadObject id
@@ -32,7 +32,7 @@ put_fault_at objects.Fault = Fault
 put_fault_at objects.Memory = Memory
 
 -- what is answered of a tree that has an entry whose path is none
-abbrev pub path_fault_at : List ℕ → PathFault → TreeFault
+abbrev pub path_fault_at : Id → PathFault → TreeFault
 path_fault_at id paths.Empty = BadObject id
 path_fault_at id (paths.TooLong length) = BadObject id
 path_fault_at id (paths.NotUtf8 at) = BadObject id

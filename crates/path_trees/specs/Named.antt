@@ -3,7 +3,7 @@ use Rattle.std.specs.Prelude.{Result}
 use Rattle.object_text.specs.Store.{oversize_at}
 use Rattle.object_text.specs.TreeMaps.{MapFault, BadTree, TooDeep, map_at}
 use Rattle.objects.specs.Named.{commit_named, no_object}
-use Rattle.path_trees.specs.Rows.{Rows}
+use Rattle.seq_base.specs.PathMaps.{Entries}
 use Rattle.seq_base.specs.Words.{Id}
 use Rattle.seq_base.specs.World.{World}
 use Rattle.seq_outside.specs.Halts.{◌>>=◌, for_reason}
@@ -17,11 +17,11 @@ no_map w (BadTree id) = no_object id (oversize_at w id)
 no_map w TooDeep = Limit TreeDepth 257
 
 -- the map of a tree
-unfoldable pub map_named : World → Id → Result Rows Lack
+unfoldable pub map_named : World → Id → Result Entries Lack
 map_named w id = for_reason (no_map w) (map_at w id)
 
 -- the map of a commit's tree
-unfoldable pub commit_map : World → Id → Result Rows Lack
+unfoldable pub commit_map : World → Id → Result Entries Lack
 commit_map w id = do
   commit ← commit_named w id
   map_named w commit.tree

@@ -2,8 +2,8 @@
 use Rattle.std.specs.Prelude.{◌≡◌, ◌==◌, ℕ, ◌≤◌, Bool, true, List, [], ◌∷◌, None, drop, length, map, not, Result, Ok, Err}
 use Rattle.std.specs.List.{AllByRecursion, list_all, position_or_len, starts_with}
 use Rattle.seq_base.specs.Paths.{parts}
-use Rattle.seq_base.specs.PathMaps.{IsPathMap}
-use Rattle.seq_base.specs.Words.{Id}
+use Rattle.seq_base.specs.PathMaps.{IsPathMap, Entries}
+use Rattle.seq_base.specs.Words.{Id, Path}
 use Rattle.seq_base.specs.World.{World}
 use Rattle.seq_outside.specs.Halts.{stop_if}
 use Rattle.seq_outside.specs.Turns.{◌>>=◌, Turn, gives, looked}
@@ -16,7 +16,6 @@ use Rattle.object_text.specs.Store.{put_all}
 use Rattle.object_text.specs.TreeMaps.{is_too_deep, root_of, tree_object, trees_of}
 use Rattle.object_text.specs.Trees.{is_name}
 use Rattle.objects.specs.Puts.{object_put}
-use Rattle.path_trees.specs.Rows.{Rows}
 use Rattle.path_trees.specs.declared.fault.TreeFault.{TreeFault}
 use Rattle.path_trees.specs.declared.fault.TreeFault.TheVariants.{BadObject, TooLarge, Depth, Blocked, Fault, Memory}
 
@@ -30,13 +29,13 @@ each_put (tree ∷ trees) = do
   each_put trees
 
 -- the trees of a folder's rows, a folder after its subfolders, and the id of the last
-unfoldable pub folder_put : Rows → Turn Lack Id
+unfoldable pub folder_put : Entries → Turn Lack Id
 folder_put rows = do
   put ← each_put (trees_of rows)
   gives (root_of rows)
 
 -- the trees of a map, of which none may lie too deep to be read back, and the root's id
-unfoldable pub trees_put : Rows → Turn Lack Id
+unfoldable pub trees_put : Entries → Turn Lack Id
 trees_put rows = do
   shallow ← looked (stop_if (is_too_deep rows) (Limit TreeDepth 257))
   folder_put rows
@@ -60,20 +59,20 @@ AllPut old objects new = put_all old objects ≡ record { world = new; collision
 -- ---- the rows of a folder
 
 -- the rows of a folder by what stands in their paths behind its own, which has so many bytes with its slash
-abbrev pub cut : ℕ → Rows → Rows
+abbrev pub cut : ℕ → Entries → Entries
 cut skip rows = map (λ e. (drop skip e.0, e.1)) rows
 
 -- what stands in the paths behind so many bytes is a map of paths
-pub record GoesOnBehind (skip : ℕ) (rows : Rows) : Type 0 where
+pub record GoesOnBehind (skip : ℕ) (rows : Entries) : Type 0 where
   pub long : AllByRecursion (λ e. skip ≤ length e.0) rows
   pub short : AllByRecursion (λ e. length e.0 ≤ 4095) rows
   pub names : AllByRecursion (λ e. list_all is_name (parts e.0) ≡ true) (cut skip rows)
   pub is_map : IsPathMap (cut skip rows)
 
 -- a row stands in a folder, given with its slash
-abbrev pub is_inside : List ℕ → List ℕ → Bool
+abbrev pub is_inside : Path → Path → Bool
 is_inside folder path = starts_with (λ x y. x == y) path folder
 
 -- how many of the first rows stand in a folder
-abbrev pub count_inside : List ℕ → Rows → ℕ
+abbrev pub count_inside : Path → Entries → ℕ
 count_inside folder rows = position_or_len (λ e. not (is_inside folder e.0)) rows

@@ -4,7 +4,7 @@ ghost use Rattle.std.specs.Prelude.{◌≡◌, IfOk};
 ghost use Rattle.object_text.specs.TreeMaps.{root_of};
 ghost use Rattle.seq_outside.specs.Halts.{Gives, halt_cause};
 ghost use Rattle.seq_outside.specs.Seen.{Reads, Writes};
-ghost use Rattle.seq_outside.specs.Store.{StaysOutside};
+ghost use Rattle.seq_outside.specs.Store.{KeepsFiles, StaysOutside};
 ghost use Rattle.seq_outside.specs.Turns.{Turns};
 ghost use Rattle.path_trees.specs.Halts.{halt_of_put, halt_of_read};
 ghost use Rattle.path_trees.specs.Named.{commit_map, map_named};
@@ -80,11 +80,12 @@ fn put_halt(fault: TreeFault) -> Halt<Lack>
 
 /// Puts the trees of a map, and answers the root's id (git-write-tree(1)). Limit where a tree lies below 256 others, which is judged
 /// first; else, of the first tree that is not put, Limit where it is too large, Place where another text stands in its file, and Way
-/// where another file is in its way. The trees that were put before stay.
+/// where another file is in its way. The trees that were put before stay, and whatever ends it, so does each file that stood.
 #[tactic(auto, using(crate::proofs::Naming::not_put, crate::proofs::Naming::put_halts))]
 pub fn write_trees<S: Store>(alloc: Global, store: &mut S, map: &PathMap) -> Result<Id, Halt<Lack>>
     ensures turns { S.told → Turns (λ id. id) result (trees_put map.now (S.seen store.old).content) (S.seen store.new).content }
     ensures id { IfOk result (λ id. id ≡ root_of map.now) }
+    ensures keeps { S.told → KeepsFiles (S.seen store.old).content (S.seen store.new).content }
     ensures elsewhere { S.told → StaysOutside is_object_place (S.seen store.old).content (S.seen store.new).content }
     ensures writes { Writes S.told halt_cause result (S.seen store.old) (S.seen store.new) }
 {

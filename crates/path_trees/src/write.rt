@@ -7,7 +7,7 @@ ghost use Rattle.object_text.specs.Trees.{HaveIds, IsTreeOrder};
 ghost use Rattle.objects.specs.Named.{is_object_place};
 ghost use Rattle.objects.specs.Puts.{object_put};
 ghost use Rattle.seq_outside.specs.Seen.{Writes};
-ghost use Rattle.seq_outside.specs.Store.{StaysOutside};
+ghost use Rattle.seq_outside.specs.Store.{KeepsFiles, StaysOutside};
 ghost use Rattle.path_trees.specs.Faults.{tree_cause};
 ghost use Rattle.path_trees.specs.Puts.{AllPut, GoesOnBehind, HasPut, cut, folder_put, trees_put};
 ghost use Rattle.path_trees.specs.Puts.{count_inside as count_inside_folder};
@@ -27,6 +27,7 @@ fn put_tree<S: Store>(alloc: Global, store: &mut S, entries: &[TreeEntry]) -> Re
     ensures root { IfOk result (λ id. id ≡ tree_id entries.now) }
     ensures ids { OnOk result (HaveIds entries.now) }
     ensures depth { IsErrOf result TreeFault.Depth → ⊥ }
+    ensures keeps { S.told → KeepsFiles (S.seen store.old).content (S.seen store.new).content }
     ensures elsewhere { S.told → StaysOutside is_object_place (S.seen store.old).content (S.seen store.new).content }
     ensures writes { Writes S.told tree_cause result (S.seen store.old) (S.seen store.new) }
 {
@@ -82,6 +83,7 @@ fn put_folder<S: Store>(
     ensures root { IfOk result (λ id. id ≡ root_of (cut skip rows.now)) }
     ensures ids { OnOk result (AllByRecursion (λ e. length e.1.id ≡ 20) rows.now) }
     ensures depth { IsErrOf result TreeFault.Depth → ⊥ }
+    ensures keeps { S.told → KeepsFiles (S.seen store.old).content (S.seen store.new).content }
     ensures elsewhere { S.told → StaysOutside is_object_place (S.seen store.old).content (S.seen store.new).content }
     ensures writes { Writes S.told tree_cause result (S.seen store.old) (S.seen store.new) }
 {
@@ -108,14 +110,15 @@ fn put_folder<S: Store>(
 /// Puts the trees of a map, one for each folder, a folder after its subfolders and the root last, and answers the root's id
 /// (git-write-tree(1)), whose map is the map again. Depth where a path has more than 256 parts, which is judged first; else, of the
 /// first tree that is not put, TooLarge where its content is larger than an object may be, BadObject where another text stands in its
-/// file, and Blocked where another file is in its way. At Err the trees that were put before stay: who wants none of them then writes
-/// into a draft.
+/// file, and Blocked where another file is in its way. Then the trees that were put before stay: who wants none of them writes into a
+/// draft. Whatever ends it, each file that stood is as it was.
 pub fn write_map<S: Store>(alloc: Global, store: &mut S, map: &PathMap) -> Result<Id, TreeFault>
     ensures trees { S.told → HasPut result (trees_put map.now (S.seen store.old).content) (S.seen store.new).content }
     ensures root { IfOk result (λ id. id ≡ root_of map.now) }
     ensures depth { IsErrOf result TreeFault.Depth ↔ (is_too_deep_map map.now ≡ true) }
     ensures objects { S.told → OnOk result (AllPut (S.seen store.old).content (each tree_object (trees_of map.now)) (S.seen store.new).content) }
     ensures reads { S.told → IfOk result (λ root. map_at (S.seen store.new).content root ≡ Ok map.now) }
+    ensures keeps { S.told → KeepsFiles (S.seen store.old).content (S.seen store.new).content }
     ensures elsewhere { S.told → StaysOutside is_object_place (S.seen store.old).content (S.seen store.new).content }
     ensures writes { Writes S.told tree_cause result (S.seen store.old) (S.seen store.new) }
 {

@@ -54,7 +54,7 @@ module _ (branch : Name) (head : Id) (c : CommitFields) (who : Text) (index : Li
 
   before : (q : Path) → IsPath q → is_none (entry_at m q) ≡ false → held.get step.between q ≡ held.get w q
   before q is there =
-      one_away (index_write m) half.mid step.between q step.first (path_no_git q (codes "index") is) ∙ writes_away (removals index m) made.with_trees half.mid q half.first (not_removed q index m there)
+      one_away (index_write m) half.mid step.between q step.first (path_no_git q (codes "index") is) ∙ writes_away (removals index m) made.with_trees half.mid q half.first (not_removed q index m index there)
       ∙ made.trees.stored.elsewhere q (λ i. path_no_git q (drop 5 (object_path i)) is)
 
   rows_unchanged : AllByRecursion (λ d. is_changed w d ≡ false) index → (rows : Entries) → AllByRecursion (λ e. IsPath e.0) rows → AllByRecursion (λ e. is_none (entry_at m e.0) ≡ false) rows

@@ -27,7 +27,7 @@ use Rattle.seq_model.specs.Making.{commit_object, message_path, pick_line}
 use Rattle.seq_outside.specs.declared.write.Write.{Write}
 use Rattle.seq_outside.specs.declared.write.Write.TheVariants.{Remove}
 use Rattle.stage_index.specs.Stages.{Entries}
-use Rattle.stage_index.specs.Switching.{index_write, is_dropped, is_rewritten, removals}
+use Rattle.stage_index.specs.Switching.{index_write, is_dropped, is_rewritten, removals, removals_of}
 use Rattle.stage_index.proofs.Indexing.{indexed_is_index}
 use Rattle.worktree.specs.Writes.{blob_writes}
 use Rattle.pick_laws.specs.Leaving.{ArePaths}
@@ -44,11 +44,11 @@ both_away : (q : Path) (xs ys : List Write) → AreAway q xs → AreAway q ys �
 both_away q [] ys a b = b
 both_away q (x ∷ xs) ys a b = (a.0, both_away q xs ys a.1 b)
 
-removals_away : (rest : Path) (index : List IndexEntry) (m : Entries) → AllByRecursion (λ e. IsPath e.path) index → AreAway (codes ".git/" ++ rest) (removals index m)
-removals_away rest [] m paths = tt
-removals_away rest (e ∷ index) m paths = at (is_dropped m e) (removals_away rest index m paths.1)
+removals_away : (rest : Path) (from : List IndexEntry) (m : Entries) (index : List IndexEntry) → AllByRecursion (λ e. IsPath e.path) index → AreAway (codes ".git/" ++ rest) (removals_of from m index)
+removals_away rest from m [] paths = tt
+removals_away rest from m (e ∷ index) paths = at (is_dropped from m e) (removals_away rest from m index paths.1)
   where
-    at : (b : Bool) → AreAway (codes ".git/" ++ rest) (removals index m) → AreAway (codes ".git/" ++ rest) (map (λ d. Remove d.path) (cond b (e ∷ filter (is_dropped m) index) (filter (is_dropped m) index)))
+    at : (b : Bool) → AreAway (codes ".git/" ++ rest) (removals_of from m index) → AreAway (codes ".git/" ++ rest) (map (λ d. Remove d.path) (cond b (e ∷ filter (is_dropped from m) index) (filter (is_dropped from m) index)))
     at true others = (λ is. path_no_git e.path rest paths.0 (sym is), others)
     at false others = others
 
@@ -82,7 +82,7 @@ module _ (branch : Name) (head : Id) (c : CommitFields) (who : Text) (index : Li
   object_switched : (i : Id) → held.get made.with_files (object_path i) ≡ held.get made.with_trees (object_path i)
   object_switched i =
       let rest : Path = drop 5 (object_path i) in
-      let away : AreAway (object_path i) (removals index m ++ index_write m ∷ made.switched.blobs) = both_away (object_path i) (removals index m) (index_write m ∷ made.switched.blobs) (removals_away rest index m paths.tracked) (λ is. index_no_object i (sym is), blobs_at rest) in
+      let away : AreAway (object_path i) (removals index m ++ index_write m ∷ made.switched.blobs) = both_away (object_path i) (removals index m) (index_write m ∷ made.switched.blobs) (removals_away rest index m index paths.tracked) (λ is. index_no_object i (sym is), blobs_at rest) in
       writes_away (removals index m ++ index_write m ∷ made.switched.blobs) made.with_trees made.with_files (object_path i) made.switched.made away
 
   pub objects_stay : ObjectsStay made.with_trees v

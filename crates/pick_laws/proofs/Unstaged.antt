@@ -19,7 +19,7 @@ use Rattle.seq_outside.specs.declared.write.Write.TheVariants.{Remove}
 use Rattle.stage_index.specs.Changes.{changed, has_blob, is_changed, is_gitlink}
 use Rattle.stage_index.specs.Least.{least}
 use Rattle.stage_index.specs.Stages.{Entries, is_merged, map_of, row_of}
-use Rattle.stage_index.specs.Switching.{is_dropped, is_kept, removals}
+use Rattle.stage_index.specs.Switching.{is_dropped, is_kept, is_submodule_at, removals_of}
 use Rattle.stage_index.proofs.FirstPassing.{passes_at, rest_begins}
 use Rattle.pick_laws.proofs.Switching.{AreAway}
 
@@ -105,12 +105,12 @@ all_there (d ∷ ds) = (first, later ds (all_there ds))
     later [] there = tt
     later (r ∷ rows) there = (one (bytes_eq d.0 r.0) r.0 there.0, later rows there.1)
 
-pub not_removed : (q : Path) (index : List IndexEntry) (m : Entries) → is_none (entry_at m q) ≡ false → AreAway q (removals index m)
-not_removed q [] m there = tt
-not_removed q (d ∷ ds) m there = at (is_dropped m d) refl (not_removed q ds m there)
+pub not_removed : (q : Path) (from : List IndexEntry) (m : Entries) (index : List IndexEntry) → is_none (entry_at m q) ≡ false → AreAway q (removals_of from m index)
+not_removed q from m [] there = tt
+not_removed q from m (d ∷ ds) there = at (is_dropped from m d) refl (not_removed q from m ds there)
   where
-    at : (b : Bool) → is_dropped m d ≡ b → AreAway q (removals ds m) → AreAway q (map (λ e. Remove e.path) (cond b (d ∷ filter (is_dropped m) ds) (filter (is_dropped m) ds)))
-    at true is others = (λ same. both_ways (is_none (entry_at m q)) there (ap (λ (p : Path). is_none (entry_at m p)) same ∙ (and_parts (is_none (entry_at m d.path)) (not (is_gitlink d.mode)) is).0), others)
+    at : (b : Bool) → is_dropped from m d ≡ b → AreAway q (removals_of from m ds) → AreAway q (map (λ e. Remove e.path) (cond b (d ∷ filter (is_dropped from m) ds) (filter (is_dropped from m) ds)))
+    at true is others = (λ same. both_ways (is_none (entry_at m q)) there (ap (λ (p : Path). is_none (entry_at m p)) same ∙ (and_parts (is_none (entry_at m d.path)) (not (is_submodule_at from d.path)) is).0), others)
     at false is others = others
 
 -- ---- all entries

@@ -1,7 +1,7 @@
 -- A branch that is moved step by step is moved as a whole, where nothing is in the way.
 use Rattle.std.proofs.Common.{◌≡◌, ◌⊎◌, ◌++◌, ℕ, Bool, true, false, cond, codes, List, [], inl, inr, Ok, refl, sym, subst}
 use Rattle.std.specs.FinMap as map
-use Rattle.std.specs.Prelude.{IfOk, Result, Err, drop, unwrap_or}
+use Rattle.std.specs.Prelude.{Result, Err, drop, unwrap_or}
 use Rattle.std.specs.Str.{bytes_eq}
 use Rattle.std.proofs.lemmas.Bool.{or_cases}
 use Rattle.std.proofs.lemmas.Slice.Eq.{bytes_eq-Decides}

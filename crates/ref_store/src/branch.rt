@@ -11,11 +11,11 @@ ghost use Rattle.seq_base.specs.World.{path_cmp};
 ghost use Rattle.seq_outside.specs.Halts.{halt_cause};
 ghost use Rattle.seq_outside.specs.Seen.{Writes};
 
-use crate::file::{file_text, put_file};
+use crate::file::file_text;
 use crate::place::{has_log, log_file, ref_file};
 use ref_text::{Head, LogLine, head_text, log_text};
-use seq_base::Id;
-use seq_outside::{Halt, Lack, Store};
+use seq_base::{Bytes, Id};
+use seq_outside::{Halt, Lack, Store, put_file};
 use std::alloc::Global;
 
 /// Gives a ref a value.
@@ -33,7 +33,7 @@ pub(crate) fn set_ref<S: Store>(
 {
     let path = ref_file(alloc, name)?;
     let text = head_text(alloc, &Head::Detached(id))?;
-    put_file(alloc, store, path, &text)
+    put_file(alloc, store, Bytes::from_vec(path), &text)
 }
 
 /// Adds a line at the end of the log of a ref, if a log is kept of it.
@@ -57,7 +57,7 @@ pub(crate) fn add_line<S: Store>(
     let mut text = file_text(alloc, store, &path)?;
     let added = log_text(alloc, line)?;
     text.extend_from_slice(&added)?;
-    put_file(alloc, store, path, &text)
+    put_file(alloc, store, Bytes::from_vec(path), &text)
 }
 
 /// Adds a line at the end of HEAD's log.

@@ -14,12 +14,11 @@ ghost use Rattle.seq_outside.specs.Seen.{Reads, Writes, store_cause};
 
 use crate::branch::{add_line, set_ref};
 use crate::fault::RefFault;
-use crate::file::put_file;
 use crate::place::{log_file, name_of, ref_file};
 use crate::read::resolve;
 use ref_text::{Head, LogLine, head_text};
-use seq_base::Id;
-use seq_outside::{Halt, Lack, Store, StoreError, is_blocked};
+use seq_base::{Bytes, Id};
+use seq_outside::{Halt, Lack, Store, StoreError, is_blocked, put_file};
 use std::alloc::Global;
 
 fn is_value(found: &Option<Id>, expected: &Option<Id>) -> bool
@@ -202,7 +201,10 @@ pub fn update<S: Store>(
 ) -> Result<(), Halt<RefFault>>
     requires name { IsRefName name.now }
     requires line { IfSome line (λ line. IsLogValue line.now) }
-    ensures turns { S.told → Does result (updated name.now expected new (option_map (λ line. line.now) line.entry)) (S.seen store.old) (S.seen store.new) }
+    ensures turns { S.told → Does result
+        (updated name.now expected new (option_map (λ line. line.now) line.entry))
+        (S.seen store.old)
+        (S.seen store.new) }
     ensures elsewhere { S.told → StaysWhere (IsOutside name.now) (S.seen store.old) (S.seen store.new) }
     ensures unchanged { S.told → KeepsIfStopped result (S.seen store.old).content (S.seen store.new).content }
     ensures writes { Writes S.told halt_cause result (S.seen store.old) (S.seen store.new) }
@@ -221,7 +223,7 @@ fn put_head<S: Store>(alloc: Global, store: &mut S, head: &Head) -> Result<(), H
 {
     let path = ref_file(alloc, b"HEAD")?;
     let text = head_text(alloc, head)?;
-    let put = put_file(alloc, store, path, &text);
+    let put = put_file(alloc, store, Bytes::from_vec(path), &text);
     or_blocked(alloc, b"HEAD", put)
 }
 

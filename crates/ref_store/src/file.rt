@@ -1,16 +1,11 @@
-//! Files that are read and put.
+//! Files that are read.
 
 ghost use Rattle.std.specs.FinMap as map;
-ghost use Rattle.std.specs.Prelude.{◌≡◌, [], IfOk, List, false, unwrap_or, ℕ};
-ghost use Rattle.ref_store.specs.Steps.{Does, StaysBut};
+ghost use Rattle.std.specs.Prelude.{◌≡◌, [], IfOk, unwrap_or};
 ghost use Rattle.seq_base.specs.StorePaths.{IsStorePath};
-ghost use Rattle.seq_base.specs.World.{path_cmp};
-ghost use Rattle.seq_outside.specs.Halts.{halt_cause};
-ghost use Rattle.seq_outside.specs.Seen.{Reads, Writes, store_cause};
-ghost use Rattle.seq_outside.specs.Turns.{put_in};
+ghost use Rattle.seq_outside.specs.Seen.{Reads, store_cause};
 
-use seq_base::Bytes;
-use seq_outside::{Halt, Lack, Store, StoreError};
+use seq_outside::{Store, StoreError};
 use std::alloc::Global;
 
 /// The bytes of a file, of which a missing one has none.
@@ -22,28 +17,5 @@ pub fn file_text<S: Store>(alloc: Global, store: &mut S, path: &[u8]) -> Result<
     match store.get(alloc, path)? {
         Some(text) => Ok(text),
         None => Ok(Vec::new(alloc)),
-    }
-}
-
-/// Puts a file.
-#[tactic(auto, unfolding(seq_outside::specs::Turns::put_in))]
-pub fn put_file<S: Store>(
-    alloc: Global,
-    store: &mut S,
-    path: Vec<u8>,
-    bytes: &[u8],
-) -> Result<(), Halt<Lack>>
-    requires { IsStorePath path.items }
-    ensures turns { S.told → Does result (put_in path.items bytes.now) (S.seen store.old) (S.seen store.new) }
-    ensures elsewhere { S.told → StaysBut path.items (S.seen store.old) (S.seen store.new) }
-    ensures writes { Writes S.told halt_cause result (S.seen store.old) (S.seen store.new) }
-{
-    match store.put(alloc, &path, bytes) {
-        Ok(()) => Ok(()),
-        Err(StoreError::Failed) => Err(Halt::Fault),
-        Err(StoreError::Blocked) => Err(Halt::Stops(Lack::Way {
-            path: Bytes::from_vec(path),
-        })),
-        Err(StoreError::Memory) => Err(Halt::Memory),
     }
 }

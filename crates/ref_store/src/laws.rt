@@ -32,7 +32,8 @@ pub fn branch_is_moved(branch: &[u8], id: Id, line: &LogLine)
 pub fn value_is_told(name: &[u8])
     ghost w: { World }
     ensures told { (value : Option (List ℕ)) → HasValue w name.now value → RefAt w name.now value }
-    ensures found { (value : Option (List ℕ)) → (name.now ≡ head_name → map.get w (ref_path head_name) ≢ None) → RefAt w name.now value → HasValue w name.now value }
+    ensures found { (value : Option (List ℕ)) → (name.now ≡ head_name → map.get w (ref_path head_name) ≢ None)
+        → RefAt w name.now value → HasValue w name.now value }
     ensures one { (a : Option (List ℕ)) (b : Option (List ℕ)) → RefAt w name.now a → RefAt w name.now b → a ≡ b }
     ensures missing { map.get w (ref_path head_name) ≡ None → value_at w head_name ≡ Err BadHead }
 {}
@@ -46,7 +47,8 @@ pub fn set_ref_keeps_other_values(name: &[u8], id: &[u8], line: &LogLine)
     requires id { IsId id.now }
     ensures value { HasValue (set_ref w name.now id.now line.now) name.now (Some id.now) }
     ensures branch { bytes_eq name.now head_name ≡ false → HasValue (move_head w (Branch name.now) id.now line.now) name.now (Some id.now) }
-    ensures head { bytes_eq name.now head_name ≡ false → head_at w ≡ Ok (Branch name.now) → HasValue (move_head w (Branch name.now) id.now line.now) head_name (Some id.now) }
+    ensures head { bytes_eq name.now head_name ≡ false → head_at w ≡ Ok (Branch name.now)
+        → HasValue (move_head w (Branch name.now) id.now line.now) head_name (Some id.now) }
     ensures detached { (old : List ℕ) → HasValue (move_head w (Detached old) id.now line.now) head_name (Some id.now) }
     ensures others { KeepsOthers w (set_ref w name.now id.now line.now) name.now }
     ensures unmoved { KeepsOthers w (move_head w (Branch name.now) id.now line.now) name.now }
@@ -70,8 +72,11 @@ pub fn delete_keeps_other_values(name: &[u8], refs: &[(Bytes, Id)])
 pub fn update_is_exact(name: &[u8], expected: &Option<Id>, id: &[u8], line: &LogLine)
     ghost w: { World }
     requires name { IsRefName name.now }
-    ensures sets { HasValue w name.now expected.now → IsWritable w name.now → UpdateIs w name.now expected.now id.now line.now (Ok tt, set_ref w name.now id.now line.now) }
+    ensures sets { HasValue w name.now expected.now → IsWritable w name.now
+        → UpdateIs w name.now expected.now id.now line.now (Ok tt, set_ref w name.now id.now line.now) }
     ensures fails { (why : RefFault) → value_at w name.now ≡ Err why → UpdateIs w name.now expected.now id.now line.now (Err why, w) }
-    ensures moved { (found : Option (List ℕ)) → HasValue w name.now found → found ≢ expected.now → UpdateIs w name.now expected.now id.now line.now (Err (Moved found), w) }
-    ensures blocked { HasValue w name.now expected.now → is_barred w name.now ≡ true → UpdateIs w name.now expected.now id.now line.now (Err (Blocked name.now), w) }
+    ensures moved { (found : Option (List ℕ)) → HasValue w name.now found → found ≢ expected.now
+        → UpdateIs w name.now expected.now id.now line.now (Err (Moved found), w) }
+    ensures blocked { HasValue w name.now expected.now → is_barred w name.now ≡ true
+        → UpdateIs w name.now expected.now id.now line.now (Err (Blocked name.now), w) }
 {}

@@ -17,5 +17,6 @@ pub use laws::{
     branch_is_moved, delete_keeps_other_values, set_ref_keeps_other_values, update_is_exact,
     value_is_told,
 };
+pub use place::ref_file;
 pub use read::{head, log, resolve};
 pub use removal::delete;

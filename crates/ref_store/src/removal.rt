@@ -14,12 +14,11 @@ ghost use Rattle.seq_outside.specs.Seen.{Writes};
 
 use crate::change::or_blocked;
 use crate::fault::RefFault;
-use crate::file::put_file;
 use crate::place::ref_file;
 use crate::read::packed_refs;
 use ref_text::packed_text;
 use seq_base::{Bytes, Id};
-use seq_outside::{Halt, Store};
+use seq_outside::{Halt, Store, put_file};
 use std::alloc::{AllocError, Global};
 
 fn is_packed(refs: &[(Bytes, Id)], name: &[u8]) -> bool
@@ -68,7 +67,7 @@ fn repack<S: Store>(
 {
     let text = text_without(alloc, refs, name)?;
     let path = b".git/packed-refs".to_vec(alloc)?;
-    let put = put_file(alloc, store, path, &text);
+    let put = put_file(alloc, store, Bytes::from_vec(path), &text);
     or_blocked(alloc, name, put)
 }
 

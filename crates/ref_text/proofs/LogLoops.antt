@@ -2,9 +2,7 @@
 use Rattle.std.proofs.Common.{◌≡◌, ℕ, suc, ◌-◌, ◌<◌, ◌≤◌, true, false, eqb, get_or, List, [], ◌∷◌, ◌++◌, length, Result, Ok, Err, refl, ap, ◌∙◌, length-append, arith}
 use Rattle.std.proofs.lemmas.Bool.{eqb-true}
 use Rattle.std.proofs.lemmas.List.{append-nil}
-use Rattle.std.proofs.lemmas.List.Sums.{AllPass-from_list_all}
 use Rattle.hex.specs.Hex.{is_hex_digit}
-use Rattle.seq_base.specs.First.{IsFirstFailing}
 use Rattle.grammar.specs.Gives.{Fails}
 use Rattle.grammar.specs.declared.fault.ReadError.{ReadError}
 use Rattle.grammar.specs.declared.fault.ReadError.TheVariants as errors
@@ -14,7 +12,7 @@ use Rattle.grammar.specs.Lines.{IsFirstBadLine, line_of_place}
 use Rattle.grammar.proofs.LineLaws.{first_bad_line}
 use Rattle.grammar.proofs.Passing.{passing_reads}
 use Rattle.grammar.proofs.Top.{first_bad}
-use Rattle.grammar.proofs.StarLoops.{Loop, loop_none, loop_more, loop_err, loop_last}
+use Rattle.grammar.proofs.StarLoops.{Loop, loop_more, loop_err, loop_last}
 use Rattle.ident_text.specs.declared.ident.Ident.{Ident}
 use Rattle.ident_text.specs.ReadIdents.{ident_from}
 use Rattle.ident_text.proofs.IdentLaws.{ident_reads}
@@ -25,10 +23,6 @@ use Rattle.ref_text.proofs.LogLaws.{Each, Good, is_star, log_reads}
 
 pub read_digits : (bytes x rest : List ℕ) → passing_at is_hex_digit 40 bytes ≡ Ok (x, rest) → AreDigits x
 read_digits bytes x rest e = let k = (passing_reads is_hex_digit 48 (omega arith) refl 40).takes bytes x rest e in record { forty = k.1.0; hex = k.1.1 }
-
--- no digit of forty is a bad one
-pub all_hex : (x : List ℕ) (at : ℕ) → AreDigits x → IsFirstFailing is_hex_digit x at → ⊥
-all_hex x at h bad = let on = AllPass-from_list_all is_hex_digit x h.hex at 0 bad.within in let off = bad.fails in cc
 
 pub ident_within : (bytes : List ℕ) (ident : Ident) (rest : List ℕ) → ident_from bytes ≡ Ok (ident, rest) → length rest ≤ length bytes
 ident_within bytes ident rest e = let k = ident_reads.takes bytes ident rest e in omega (arith, ap length k.2, length-append k.0 rest)
@@ -43,9 +37,6 @@ LogLoop bytes lines rest = Loop Good any_byte kept Each (λ s. End) (λ s. line_
 pub begins_rest : (rest : List ℕ) → eqb (length rest) 0 ≡ false → begins any_byte rest ≡ true
 begins_rest [] some = absurd cc
 begins_rest (b ∷ rest) some = refl
-
-pub log_none : (bytes : List ℕ) → LogLoop bytes [] bytes
-log_none bytes = loop_none Good any_byte kept Each (λ s. End) (λ s. line_from) (λ s rest. end_at rest) is_star tt bytes tt
 
 pub log_more : (bytes : List ℕ) (lines : List LogLine) (rest : List ℕ) (line : LogLine) (after : List ℕ) → eqb (length rest) 0 ≡ false → line_from rest ≡ Ok (line, after)
     → LogLoop bytes lines rest → LogLoop bytes (lines ++ line ∷ []) after × (length after < length rest)

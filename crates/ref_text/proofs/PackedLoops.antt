@@ -10,7 +10,7 @@ use Rattle.grammar.specs.Readers.{◌>>=◌, End, end_at, star_at}
 use Rattle.grammar.specs.Lines.{IsFirstBadLine, line_of_place}
 use Rattle.grammar.proofs.LineLaws.{first_bad_line}
 use Rattle.grammar.proofs.Top.{first_bad, read_whole}
-use Rattle.grammar.proofs.StarLoops.{Loop, loop_none, loop_more, loop_err, loop_last}
+use Rattle.grammar.proofs.StarLoops.{Loop, loop_more, loop_err, loop_last}
 use Rattle.ref_text.specs.Packed.{IsPacked, packed_text}
 use Rattle.ref_text.specs.ReadLogs.{any_byte}
 use Rattle.ref_text.specs.ReadPacked.{Ref, next_after, packed_from, packed_line_from, refs_of}
@@ -42,9 +42,6 @@ refs-push (Some q ∷ lines) line = ap (λ (rs : List Ref). q ∷ rs) (refs-push
     first : (line : Option Ref) → q ∷ with_line (refs_of lines) line ≡ with_line (q ∷ refs_of lines) line
     first None = refl
     first (Some r) = refl
-
-pub packed_none : (bytes : List ℕ) → PackedLoop bytes [] false bytes
-packed_none bytes = ([], loop_none AnyState any_byte next_after EachLine (λ s. End) packed_line_from (λ s rest. end_at rest) packed_star false bytes tt, refl)
 
 pub packed_more : (bytes : List ℕ) (refs : List Ref) (after : Bool) (rest : List ℕ) (line : Option Ref) (behind : List ℕ) → eqb (length rest) 0 ≡ false → packed_line_from after rest ≡ Ok (line, behind)
     → PackedLoop bytes refs after rest → PackedLoop bytes (with_line refs line) (is_some line) behind × (length behind < length rest)

@@ -19,8 +19,10 @@ pub fn set_ref_has_value(name: &[u8], id: &[u8], line: &LogLine)
     requires name { IsRefName name.now }
     requires id { HasIdWidth id.now }
     ensures value { RefAt (set_ref w name.now id.now line.now) name.now (Some id.now) }
-    ensures elsewhere { (path : List ℕ) → path ≢ ref_path name.now → path ≢ log_path name.now → map.get (set_ref w name.now id.now line.now) path ≡ map.get w path }
-    ensures others { (other : List ℕ) (value : Option (List ℕ)) → IsRefName other → RefAt w other value → RefAt (set_ref w name.now id.now line.now) other value ⊎ RefAt (set_ref w name.now id.now line.now) other (Some id.now) }
+    ensures elsewhere { (path : List ℕ) → path ≢ ref_path name.now → path ≢ log_path name.now
+        → map.get (set_ref w name.now id.now line.now) path ≡ map.get w path }
+    ensures others { (other : List ℕ) (value : Option (List ℕ)) → IsRefName other → RefAt w other value
+        → RefAt (set_ref w name.now id.now line.now) other value ⊎ RefAt (set_ref w name.now id.now line.now) other (Some id.now) }
 {}
 
 /// A deleted name has no value, loose or packed, and no path but its own and that of the packed refs has changed.
@@ -30,7 +32,8 @@ pub fn deleted_name_has_no_value(name: &[u8], refs: &[(Bytes, Id)])
     requires name { IsRefName name.now }
     requires packed { PackedAt w refs.now }
     ensures value { RefAt (delete_ref w refs.now name.now) name.now None }
-    ensures elsewhere { (path : List ℕ) → path ≢ ref_path name.now → path ≢ packed_path → map.get (delete_ref w refs.now name.now) path ≡ map.get w path }
+    ensures elsewhere { (path : List ℕ) → path ≢ ref_path name.now → path ≢ packed_path
+        → map.get (delete_ref w refs.now name.now) path ≡ map.get w path }
 {}
 
 /// The text that is written of the refs of some text spells these refs, and a text spells no others beside its own.

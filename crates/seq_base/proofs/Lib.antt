@@ -12,8 +12,6 @@ pub mod Lookups
 pub mod Halving
 pub mod Places
 pub mod Objects
-pub mod Repositories
-pub mod Rests
 pub mod RefPaths
 pub mod CharFronts
 pub mod CharEnds

@@ -1,5 +1,5 @@
 -- A put that is not blocked keeps the shape of a world.
-use Rattle.std.proofs.Common.{◌≡◌, ◌⊎◌, ℕ, length, slice_index, nat_eq, ◌==◌, ◌&&◌, Bool, true, false, ◌||◌, cond, List, [], ◌∷◌, Option, Some, None, refl, sym, ap, ◌∙◌, inl, inr}
+use Rattle.std.proofs.Common.{◌≡◌, ◌⊎◌, ℕ, length, slice_index, nat_eq, ◌==◌, ◌&&◌, Bool, true, false, ◌||◌, cond, List, [], ◌∷◌, Some, None, refl, sym, ap, ◌∙◌, inl, inr}
 use Rattle.std.specs.Cmp.Lexicographic.{nat_list_cmp_total}
 use Rattle.std.specs.FinMap as map
 use Rattle.std.specs.FinMap.{contains_key-keys, slice_cmp-IsAntisymmetric, nat_cmp-IsAntisymmetric, get-insert, get-remove, get-empty, entries, entries-insert, put}
@@ -97,13 +97,6 @@ there_after_remove w path q there =
 
 pub removed_world : (w : World) (path : List ℕ) → IsWorld w → IsWorld (map.remove w path)
 removed_world w path shaped folder file has_folder has_file = shaped folder file (there_after_remove w path folder has_folder) (there_after_remove w path file has_file)
-
-no_key : (o : Option (List ℕ)) → o ≡ None → is_some o ≡ true → ⊥
-no_key None e h = cc
-no_key (Some x) e h = cc
-
-pub empty_world : IsWorld map.empty
-empty_world folder file has_folder has_file = absurd (no_key (map.get map.empty folder) (get-empty path_cmp folder) has_folder)
 
 abbrev mapped : List (List ℕ × List ℕ) → List (List ℕ)
 mapped es = Rattle.std.specs.Prelude.map (λ (e : List ℕ × List ℕ). e.0) es

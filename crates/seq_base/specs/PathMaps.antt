@@ -65,4 +65,6 @@ first_clash (e ∷ es) path = if clashes e.0 path then Some e.0 else first_clash
 
 -- where a path stands (p.1 is true) or is to stand
 abbrev pub IsPlace : Entries → Path → ℕ × Bool → Type 0
-IsPlace es path p = (p.0 ≤ length es) × ((p.1 ≡ true → p.0 < length es)) × ((entry : Entry) → put es path entry ≡ take p.0 es ++ (path, entry) ∷ drop (if p.1 then p.0 + 1 else p.0) es)
+IsPlace es path p =
+    (p.0 ≤ length es) × (p.1 ≡ true → p.0 < length es)
+    × ((entry : Entry) → put es path entry ≡ take p.0 es ++ (path, entry) ∷ drop (if p.1 then p.0 + 1 else p.0) es)

@@ -52,7 +52,8 @@ is_file_place (git ∷ folder ∷ name ∷ []) =
     || (bytes_eq folder (codes "merge-driver") && is_job_file name)
     || (bytes_eq folder (codes "logs") && bytes_eq name (codes "HEAD"))
     )
-is_file_place (git ∷ folder ∷ front ∷ back ∷ []) = bytes_eq git (codes ".git") && bytes_eq folder (codes "objects") && are_digits 2 front && are_digits 38 back
+is_file_place (git ∷ folder ∷ front ∷ back ∷ []) =
+    bytes_eq git (codes ".git") && bytes_eq folder (codes "objects") && are_digits 2 front && are_digits 38 back
 is_file_place _ = false
 
 -- the folders of `.git` itself
@@ -74,7 +75,9 @@ pub record IsRepository (w : World) : Type 0 where
 
 -- a file that may stand in a repository: not where a folder is kept, nor below a place of a file, which has two to four parts
 abbrev pub is_in_place : Path → Bool
-is_in_place path = not (is_folder_place (parts path)) && list_all (λ n. not (nat_lt n (length (parts path)) && is_file_place (take n (parts path)))) (2 ∷ 3 ∷ 4 ∷ [])
+is_in_place path =
+    not (is_folder_place (parts path))
+    && list_all (λ n. not (nat_lt n (length (parts path)) && is_file_place (take n (parts path)))) (2 ∷ 3 ∷ 4 ∷ [])
 
 -- the file of an object: `.git/objects/`, two digits of its id, `/`, and the others
 abbrev pub object_path : Id → Path

@@ -12,7 +12,9 @@ state_folders = codes ".git/rebase-merge" ∷ codes ".git/sequencer" ∷ codes "
 
 -- the pending message, and the commits that a stop tells of
 abbrev pub state_heads : List Path
-state_heads = codes ".git/MERGE_MSG" ∷ codes ".git/MERGE_HEAD" ∷ codes ".git/REBASE_HEAD" ∷ codes ".git/CHERRY_PICK_HEAD" ∷ codes ".git/REVERT_HEAD" ∷ []
+state_heads =
+    codes ".git/MERGE_MSG" ∷ codes ".git/MERGE_HEAD" ∷ codes ".git/REBASE_HEAD" ∷ codes ".git/CHERRY_PICK_HEAD"
+    ∷ codes ".git/REVERT_HEAD" ∷ []
 
 -- a file of a stopped command
 abbrev pub is_state_path : Path → Bool

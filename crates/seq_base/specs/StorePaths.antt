@@ -10,7 +10,9 @@ use Rattle.seq_base.specs.World.{World}
 
 -- not empty, not `.` and not `..`, without NUL
 abbrev pub is_store_part : Name → Bool
-is_store_part part = not (length part == 0) && not (bytes_eq (codes ".") part) && not (bytes_eq (codes "..") part) && list_all (λ b. not (b == 0)) part
+is_store_part part =
+    not (length part == 0) && not (bytes_eq (codes ".") part) && not (bytes_eq (codes "..") part)
+    && list_all (λ b. not (b == 0)) part
 
 -- UTF-8; ASCII is asked first, since at a literal that computes
 abbrev pub is_text : Text → Bool

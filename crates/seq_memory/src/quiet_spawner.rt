@@ -170,7 +170,10 @@ fn write_file<S: Store>(
     bytes: &[u8],
 ) -> Result<(), AllocError>
     requires { IsStorePath path.now }
-    ensures exact { S.told → LeavesIfWell result (S.seen store.old) (changed (S.seen store.old).content path.now (Some bytes.now)) (S.seen store.new) }
+    ensures exact { S.told → LeavesIfWell result
+        (S.seen store.old)
+        (changed (S.seen store.old).content path.now (Some bytes.now))
+        (S.seen store.new) }
     ensures elsewhere { S.told → StaysElsewhere path.now (S.seen store.old).content (S.seen store.new).content }
     ensures store { Goes S.told (S.seen store.old) (S.seen store.new) }
 {

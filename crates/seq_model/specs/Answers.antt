@@ -33,8 +33,8 @@ aimed w (Err denial, v) = w
 -- By what is meant: the answer, unless the store failed or memory ran out.
 abbrev pub FitsWorld : Outcome → Outcome → Type 0
 FitsWorld (Done head) answer = answer ≡ Done head
-FitsWorld (Stopped kind paths) answer = answer ≡ Stopped kind paths
-FitsWorld (Usage fault) answer = answer ≡ Usage fault
+FitsWorld (Stopped kind paths) answer = ⊥
+FitsWorld (Usage fault) answer = ⊥
 FitsWorld (Refused refusal) answer = answer ≡ Refused refusal
 FitsWorld StoreFault answer = Unit {0}
 FitsWorld ChildFault answer = ⊥
@@ -47,7 +47,7 @@ FitsWorld Memory answer = Unit {0}
 abbrev pub Leaves : Outcome → World → World → World → Type 0
 Leaves (Done head) old aim new = new ≡ aim
 Leaves (Stopped kind paths) old aim new = ⊥
-Leaves (Usage fault) old aim new = new ≡ old
+Leaves (Usage fault) old aim new = ⊥
 Leaves (Refused refusal) old aim new = new ≡ old
 Leaves StoreFault old aim new = IsToward old aim new
 Leaves ChildFault old aim new = ⊥

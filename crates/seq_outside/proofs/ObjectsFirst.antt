@@ -172,14 +172,6 @@ unwritten_filtered p (x ∷ xs) q none = let both = or_parts (is_at q x) (is_wri
     at here later true = or_from (is_at q x) (is_written (filter p xs) q) here later
     at here later false = later
 
-apart_filtered : (p : Write → Bool) (xs : List Write) → AreApart xs → AreApart (filter p xs)
-apart_filtered p [] apart = tt
-apart_filtered p (x ∷ xs) apart = at (apart_filtered p xs apart.1) (p x)
-  where
-    at : AreApart (filter p xs) → (b : Bool) → AreApart (cond b (x ∷ filter p xs) (filter p xs))
-    at later true = (unwritten_filtered p xs (path_of x) apart.0, later)
-    at later false = later
-
 about : (q : List ℕ) (x : Write) → is_at q x ≡ true → is_of_objects x ≡ true → is_about_objects q ≡ true
 about q (Put path bytes) here object = or_left (is_object_file q) (is_below q (codes ".git/objects/")) (ap is_object_file (same_path q path here) ∙ object)
 about q (Remove path) here object = ap is_about_objects (same_path q path here) ∙ object
@@ -206,7 +198,7 @@ others_named (x ∷ xs) q object = at (others_named xs q object) (is_of_objects 
     at later false other = or_from (is_at q x) (is_written (filter is_of_others xs) q) (clear_by (is_at q x) (is_of_objects x) other (λ here. object_changed q x here object)) later
 
 -- after the first of some changes of other files a file is as before, or as after all
-unwritten_taken : (n : ℕ) (xs : List Write) (q : List ℕ) → is_written xs q ≡ false → is_written (take n xs) q ≡ false
+pub unwritten_taken : (n : ℕ) (xs : List Write) (q : List ℕ) → is_written xs q ≡ false → is_written (take n xs) q ≡ false
 unwritten_taken zero xs q none = refl
 unwritten_taken (suc n) [] q none = refl
 unwritten_taken (suc n) (x ∷ xs) q none = let both = or_parts (is_at q x) (is_written xs q) none in or_from (is_at q x) (is_written (take n xs) q) both.0 (unwritten_taken n xs q both.1)
@@ -222,7 +214,7 @@ front_between w (suc n) (x ∷ xs) apart q = at (is_at q x) refl (front_between 
     at true here (inl first) = inr (first_stays w x (take n xs) q here (unwritten_taken n xs (path_of x) apart.0) ∙ sym (first_stays w x xs q here apart.0))
     at false other (inl first) = inl (first ∙ get_after w x q ∙ ap (λ (b : Bool). cond b (left_by x) (map.get w q)) other)
 
-named-append : (xs ys : List Write) (q : List ℕ) → is_written xs q ≡ false → is_written ys q ≡ false → is_written (xs ++ ys) q ≡ false
+pub named-append : (xs ys : List Write) (q : List ℕ) → is_written xs q ≡ false → is_written ys q ≡ false → is_written (xs ++ ys) q ≡ false
 named-append [] ys q none others = others
 named-append (x ∷ xs) ys q none others = let both = or_parts (is_at q x) (is_written xs q) none in or_from (is_at q x) (is_written (xs ++ ys) q) both.0 (named-append xs ys q both.1 others)
 

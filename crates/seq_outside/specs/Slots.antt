@@ -4,6 +4,7 @@ use Rattle.std.specs.Prelude.{◌≡◌, Bool, true, false, map, ℕ, ◌+◌, i
 use Rattle.std.specs.BTreeMap.{BTreeMap, get}
 use Rattle.std.specs.BTreeSet.{BTreeSet, contains}
 use Rattle.std.specs.List.{AllByRecursion, list_any}
+use Rattle.seq_base.specs.Words.{Path}
 use Rattle.seq_base.specs.World.{World, path_cmp}
 use Rattle.seq_outside.specs.declared.store.StoreError.{StoreError}
 use Rattle.seq_outside.specs.declared.write.Write.{Write}
@@ -21,15 +22,15 @@ cleared slots None = slots
 cleared slots (Some place) = slice_set slots place None
 
 -- the place of the path's slot, from n on
-abbrev pub place_from : ℕ → List (Option Write) → List ℕ → Option ℕ
+abbrev pub place_from : ℕ → List (Option Write) → Path → Option ℕ
 place_from n [] path = None
 place_from n (None ∷ slots) path = place_from (n + 1) slots path
 place_from n (Some write ∷ slots) path = if is_at path write then Some n else place_from (n + 1) slots path
 
-pub record AreChanges (slots : List (Option Write)) (places : BTreeMap (List ℕ) ℕ) : Type 0 where
+pub record AreChanges (slots : List (Option Write)) (places : BTreeMap Path ℕ) : Type 0 where
   pub apart : AreApart (kept slots)
   pub paths : AllByRecursion HasStorePath (kept slots)
-  pub placed : (path : List ℕ) → get path_cmp places path ≡ place_from 0 slots path
+  pub placed : (path : Path) → get path_cmp places path ≡ place_from 0 slots path
 
 -- the write of a slot, if it is of objects, or if it is not
 abbrev pub chosen : Bool → Option Write → Option Write
@@ -55,12 +56,12 @@ SlotHasPath (Some write) = HasStorePath write
 SlotHasPath None = Unit {0}
 
 -- each folder below which a write puts a file is among these
-abbrev pub HoldsFolders : BTreeSet (List ℕ) → List Write → Type 0
-HoldsFolders folders writes = (folder : List ℕ) → list_any (puts_below folder) writes ≡ true → contains path_cmp folders folder ≡ true
+abbrev pub HoldsFolders : BTreeSet Path → List Write → Type 0
+HoldsFolders folders writes = (folder : Path) → list_any (puts_below folder) writes ≡ true → contains path_cmp folders folder ≡ true
 
-abbrev pub KeepsFolders : BTreeSet (List ℕ) → BTreeSet (List ℕ) → Type 0
-KeepsFolders old new = (folder : List ℕ) → contains path_cmp old folder ≡ true → contains path_cmp new folder ≡ true
+abbrev pub KeepsFolders : BTreeSet Path → BTreeSet Path → Type 0
+KeepsFolders old new = (folder : Path) → contains path_cmp old folder ≡ true → contains path_cmp new folder ≡ true
 
-pub record AreKept (slots : List (Option Write)) (places : BTreeMap (List ℕ) ℕ) (folders : BTreeSet (List ℕ)) : Type 0 where
+pub record AreKept (slots : List (Option Write)) (places : BTreeMap Path ℕ) (folders : BTreeSet Path) : Type 0 where
   pub changes : AreChanges slots places
   pub holds : HoldsFolders folders (kept slots)

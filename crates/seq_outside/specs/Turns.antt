@@ -1,6 +1,7 @@
 -- Steps over a world: each gives a value or stops, and leaves a world.
-use Rattle.std.specs.Prelude.{◌≡◌, if◌then◌else◌, List, ℕ, Result, Ok, Err}
+use Rattle.std.specs.Prelude.{◌≡◌, if◌then◌else◌, Result, Ok, Err}
 use Rattle.std.specs.FinMap as map
+use Rattle.seq_base.specs.Words.{Path, Text}
 use Rattle.seq_base.specs.World.{World, is_blocked}
 use Rattle.seq_outside.specs.declared.halt.Halt.{Halt}
 use Rattle.seq_outside.specs.declared.halt.Halt.TheVariants.{Stops, Fault, Memory}
@@ -40,11 +41,11 @@ abbrev pub saying : {E F X : Type 0} → (E → F) → Turn E X → Turn F X
 saying told step w = turn_for told (step w)
 
 -- a file that is put, unless another is in its way
-unfoldable pub put_in : List ℕ → List ℕ → Turn Lack (Unit {0})
+unfoldable pub put_in : Path → Text → Turn Lack (Unit {0})
 put_in path bytes w = if is_blocked w path then (Err (Way path), w) else (Ok tt, map.insert w path bytes)
 
 -- a file that is removed, if it is there
-abbrev pub removed : {E : Type 0} → List ℕ → Turn E (Unit {0})
+abbrev pub removed : {E : Type 0} → Path → Turn E (Unit {0})
 removed path w = (Ok tt, map.remove w path)
 
 -- A step answered, or stopped for the reason that is told, and left the world that it is to, unless the store failed or memory ran out.

@@ -64,7 +64,10 @@ impl<'a, S: Store> DraftStore<'a, S> {
     pub fn make(&mut self, alloc: Global) -> Result<(), StoreError>
         ensures made { S.told → OnOk result ((S.seen self.new.store.now).content ≡ written (S.seen self.old.store.now).content self.old.changes.now) }
         ensures none { self.new.changes.now ≡ [] }
-        ensures front { S.told → IsFront (S.seen self.old.store.now).content (objects_first self.old.changes.now) (S.seen self.new.store.now).content }
+        ensures front { S.told → IsFront
+            (S.seen self.old.store.now).content
+            (objects_first self.old.changes.now)
+            (S.seen self.new.store.now).content }
         ensures on_the_way { S.told → MakesFront (S.seen self.old.store.now) self.old.changes.now (S.seen self.new.store.now) }
         ensures not_blocked { S.told → IsErrOf result StoreError.Blocked → ⊥ }
         ensures writes { Writes S.told store_cause result (S.seen self.old.store.now) (S.seen self.new.store.now) }

@@ -13,7 +13,7 @@ pub enum Halt<E> {
     Memory,
 }
 
-/// For calls of a store that are no puts: a blocked put is told apart by whoever makes it.
+/// For calls of a store that no path blocks, such as a draft that is made: whoever puts a file tells a blocked put apart, as `put_file` does.
 impl<E> From<StoreError> for Halt<E> {
     ghost use Rattle.std.specs.Prelude.{◌≡◌};
     ghost use Rattle.seq_outside.specs.Halts.{halt_of};

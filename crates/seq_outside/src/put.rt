@@ -6,6 +6,8 @@ ghost use Rattle.seq_outside.specs.Halts.{halt_cause};
 ghost use Rattle.seq_outside.specs.Seen.{Writes};
 ghost use Rattle.seq_outside.specs.Store.{StaysElsewhere};
 ghost use Rattle.seq_outside.specs.Turns.{Turns, put_in};
+ghost use Rattle.seq_outside.specs.Writes.{StepLeaves};
+ghost use Rattle.seq_outside.specs.declared.write.Write.TheVariants.{Put};
 
 use crate::halt::Halt;
 use crate::lack::Lack;
@@ -23,6 +25,7 @@ pub fn put_file<S: Store>(
 ) -> Result<(), Halt<Lack>>
     requires { IsStorePath path }
     ensures turns { S.told → Turns (λ x. x) result (put_in path bytes.now (S.seen store.old).content) (S.seen store.new).content }
+    ensures leaves { S.told → StepLeaves result (S.seen store.old).content (Put path bytes.now) (S.seen store.new).content }
     ensures elsewhere { S.told → StaysElsewhere path (S.seen store.old).content (S.seen store.new).content }
     ensures writes { Writes S.told halt_cause result (S.seen store.old) (S.seen store.new) }
 {

@@ -3,19 +3,18 @@
 ghost use Rattle.std.specs.Prelude.{◌≡◌, ◌==◌, IfOk, IfSome, IsErrOf, not, true};
 ghost use Rattle.std.specs.List.{list_all};
 ghost use Rattle.std.specs.Option.{option_map};
-ghost use Rattle.ref_text.specs.Refs.{ref_path};
 ghost use Rattle.seq_base.specs.RefNames.{is_ref_name as is_ref_name_of};
-ghost use Rattle.seq_base.specs.StorePaths.{IsStorePath};
 ghost use Rattle.seq_model.specs.Branches.{branch_at, branch_in, branch_of_line, tip_of};
 ghost use Rattle.seq_model.specs.Ids.{id_in as id_of_text, id_line_in, line_in};
 ghost use Rattle.seq_outside.specs.Seen.{Reads};
 ghost use Rattle.seq_outside.specs.Halts.{Gives, halt_cause};
 
 use crate::halt::refused;
+use ref_store::ref_file;
 use seq_base::{Id, is_ref_name};
 use seq_model::{Denial, Refusal};
 use seq_outside::{Halt, Store};
-use std::alloc::{AllocError, Global};
+use std::alloc::Global;
 
 /// The id that forty hex digits spell.
 #[tactic(auto, unfolding(seq_model::specs::Ids::id_in), using(crate::proofs::Ids::no_id))]
@@ -88,23 +87,14 @@ pub fn branch_of(head: &[u8]) -> Result<&[u8], Halt<Denial>>
     }
 }
 
-/// The path of a ref's file.
-fn path_of(alloc: Global, name: &[u8]) -> Result<Vec<u8>, AllocError>
-    ensures { IfOk result (λ path. path.items ≡ ref_path name.now) }
-{
-    let mut path = b".git/".to_vec(alloc)?;
-    path.extend_from_slice(name)?;
-    Ok(path)
-}
-
 /// The commit that a branch is at.
-#[tactic(auto, unfolding(seq_model::specs::Branches::tip_of), using(seq_base::proofs::RefPaths::ref_paths))]
+#[tactic(auto, unfolding(seq_model::specs::Branches::tip_of))]
 pub fn tip_at<S: Store>(alloc: Global, branch: &[u8], store: &mut S) -> Result<Id, Halt<Denial>>
     requires { is_ref_name_of branch.now ≡ true }
     ensures gives { S.told → Gives (λ id. id) result (tip_of (S.seen store.old).content branch.now) }
     ensures reads { Reads S.told halt_cause result (S.seen store.old) (S.seen store.new) }
 {
-    let path = path_of(alloc, branch)?;
+    let path = ref_file(alloc, branch)?;
     let Some(text) = store.get(alloc, &path)? else {
         return Err(refused(Refusal::NotBuilt));
     };

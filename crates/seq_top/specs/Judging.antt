@@ -1,23 +1,22 @@
 -- What an invocation comes to before its outcome is printed.
-use Rattle.std.specs.Prelude.{◌≡◌, ◌⊎◌, Some, Result, Ok, Err}
+use Rattle.std.specs.Prelude.{◌≡◌, ◌⊎◌, Result, Ok, Err}
 use Rattle.seq_base.specs.Words.{Id}
 use Rattle.seq_base.specs.World.{World}
-use Rattle.seq_model.specs.Answers.{aimed}
+use Rattle.seq_model.specs.Answers.{aimed, ended}
 use Rattle.seq_model.specs.declared.denial.Denial.{Denial}
 use Rattle.seq_model.specs.declared.denial.Denial.TheVariants as denied
 use Rattle.seq_model.specs.declared.outcome.Outcome.{Outcome}
-use Rattle.seq_model.specs.declared.outcome.Outcome.TheVariants.{Done, Refused, StoreFault, ChildFault, OutputFault, Limit, Memory}
+use Rattle.seq_model.specs.declared.outcome.Outcome.TheVariants.{StoreFault, ChildFault, OutputFault, Memory}
 use Rattle.seq_outside.specs.Causes.{Rose}
 use Rattle.seq_outside.specs.Seen.{Seen}
 use Rattle.seq_outside.specs.Writes.{IsToward}
 use Rattle.seq_outside.specs.declared.halt.Halt.{Halt}
 use Rattle.seq_outside.specs.declared.halt.Halt.TheVariants as halts
 
--- the outcome of a pick
+-- the outcome of a pick, or why there is none
 abbrev pub outcome_of : Result Id (Halt Denial) → Outcome
-outcome_of (Ok id) = Done (Some id)
-outcome_of (Err (halts.Stops (denied.Refused refusal))) = Refused refusal
-outcome_of (Err (halts.Stops (denied.Limit what number))) = Limit what number
+outcome_of (Ok id) = ended (Ok id)
+outcome_of (Err (halts.Stops denial)) = ended (Err denial)
 outcome_of (Err halts.Fault) = StoreFault
 outcome_of (Err halts.Memory) = Memory
 

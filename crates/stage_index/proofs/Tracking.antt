@@ -7,7 +7,7 @@ use Rattle.std.specs.List.Sorted.{IsNonDecreasingBy, IsPartitionPoint}
 use Rattle.std.specs.Ordering.{nat_cmp, is_eq, ordering_index}
 use Rattle.std.specs.Str.{bytes_eq}
 use Rattle.std.specs.declared.cmp.Ordering.TheVariants.{Less, Equal, Greater}
-use Rattle.std.proofs.lemmas.Bool.{and_parts, cases_lt, eqb-true, or_parts}
+use Rattle.std.proofs.lemmas.Bool.{and_parts, both_ways, cases_lt, eqb-true, false_from_ne_true, or_from, or_parts}
 use Rattle.std.proofs.lemmas.Bool.Decides.{nat_tests}
 use Rattle.std.proofs.lemmas.List.Elements.{All-from_recursion}
 use Rattle.std.proofs.lemmas.List.Folds.{list_any_at, list_any_none}
@@ -18,7 +18,9 @@ use Rattle.seq_base.specs.PathMaps.{entry_at, is_less}
 use Rattle.index_file.specs.declared.entry.IndexEntry.{IndexEntry}
 use Rattle.index_file.specs.Entries.{IsInOrder, comes_before, holds, may_precede}
 use Rattle.stage_index.specs.Stages.{is_merged, map_of, merged_entry, row_of}
-use Rattle.stage_index.specs.Switching.{is_tracked}
+use Rattle.seq_base.specs.declared.map.Entry.{Entry}
+use Rattle.stage_index.specs.Changes.{is_gitlink}
+use Rattle.stage_index.specs.Switching.{is_submodule_at, is_tracked}
 use Rattle.stage_index.proofs.Orders.{less_apart, less_from, more_apart, same_path}
 
 -- ---- the order of an index by a path
@@ -147,3 +149,53 @@ found_at from path n e order lt is found =
 
 pub missing_at : (from : List IndexEntry) (path : List ℕ) (n : ℕ) → IsPartitionPoint (λ d. order_by path d ≡ Less) (λ d. order_by path d ≡ Greater) from n → None ≡ entry_at (map_of from) path
 missing_at from path n parted = sym (untracked_entry from path (not_there from path n parted))
+
+-- ---- submodules
+
+or_none : (a b : Bool) → b ≡ false → a || b ≡ a
+or_none true b none = refl
+or_none false b none = none
+
+and_none : (a b : Bool) → a ≡ false → a && b ≡ false
+and_none true b none = absurd cc
+and_none false b none = refl
+
+-- behind a merged entry there is no submodule at its path
+none_behind : (e : IndexEntry) (es : List IndexEntry) → is_merged e ≡ true → AllByRecursion (λ d. may_precede e d ≡ true) es → is_submodule_at es e.path ≡ false
+none_behind e [] merged h = refl
+none_behind e (d ∷ es) merged h = or_from (bytes_eq d.path e.path && is_gitlink d.mode) (is_submodule_at es e.path) (and_none (bytes_eq d.path e.path) (is_gitlink d.mode) apart) (none_behind e es merged h.1)
+  where
+    apart : bytes_eq d.path e.path ≡ false
+    apart = false_from_ne_true (bytes_eq d.path e.path) (λ is.
+        both_ways (bytes_eq e.path d.path) (other_path e d merged h.0) ((bytes_eq-Decides e.path d.path).1 (sym ((bytes_eq-Decides d.path e.path).0 is))))
+
+-- a merged path has one entry
+merged_alone : (from : List IndexEntry) (path : List ℕ) (x : Entry) → IsInOrder from → entry_at (map_of from) path ≡ Some x → is_submodule_at from path ≡ is_gitlink x.mode
+merged_alone [] path x order is = absurd cc
+merged_alone (e ∷ es) path x order is = at (is_merged e) refl (bytes_eq e.path path) refl is (merged_alone es path x order.1)
+  where
+    at : (m : Bool) → is_merged e ≡ m → (b : Bool) → bytes_eq e.path path ≡ b → entry_at (map row_of (cond m (e ∷ filter is_merged es) (filter is_merged es))) path ≡ Some x
+        → (entry_at (map_of es) path ≡ Some x → is_submodule_at es path ≡ is_gitlink x.mode) → (b && is_gitlink e.mode) || is_submodule_at es path ≡ is_gitlink x.mode
+    at true merged true same is later =
+        let here : e.path ≡ path = (bytes_eq-Decides e.path path).0 same in
+        let none : is_submodule_at es path ≡ false = ap (is_submodule_at es) (sym here) ∙ none_behind e es merged order.0 in
+        let first : Some (row_of e).1 ≡ Some x = rw same at is in
+        let entry : (row_of e).1 ≡ x = cc in
+        or_none (is_gitlink e.mode) (is_submodule_at es path) none ∙ ap (λ (y : Entry). is_gitlink y.mode) entry
+    at true merged false other is later = later (rw other at is)
+    at false unmerged true same is later =
+        let here : e.path ≡ path = (bytes_eq-Decides e.path path).0 same in
+        let none : entry_at (map_of es) path ≡ None = ap (entry_at (map_of es)) (sym here) ∙ none_merged e es unmerged order.0 in
+        absurd (let never : None ≡ Some x = sym none ∙ is in cc)
+    at false unmerged false other is later = later is
+
+pub submodule_merged : (from : List IndexEntry) (path : List ℕ) (e : IndexEntry) → IsInOrder from → (e.stage == 0) ≡ true → merged_entry (Some e) ≡ entry_at (map_of from) path → is_gitlink e.mode ≡ is_submodule_at from path
+submodule_merged from path e order merged is =
+    let entry : entry_at (map_of from) path ≡ Some (row_of e).1 = sym is ∙ ap (λ (m : Bool). cond m (Some (row_of e).1) None) merged in
+    sym (merged_alone from path (row_of e).1 order entry)
+
+pub no_submodule : (from : List IndexEntry) (path : List ℕ) → is_tracked from path ≡ false → is_submodule_at from path ≡ false
+no_submodule [] path none = refl
+no_submodule (e ∷ es) path none =
+    let both = or_parts (bytes_eq e.path path) (is_tracked es path) none in
+    or_from (bytes_eq e.path path && is_gitlink e.mode) (is_submodule_at es path) (and_none (bytes_eq e.path path) (is_gitlink e.mode) both.0) (no_submodule es path both.1)

@@ -1,5 +1,5 @@
 -- Which paths a switch of index and files to another map meets and writes (git-read-tree(1), "Two Tree Merge"; git-switch(1)).
-use Rattle.std.specs.Prelude.{ℕ, Bool, false, not, ◌&&◌, ◌||◌, List, codes, filter, map, is_none, Option, Some, None}
+use Rattle.std.specs.Prelude.{ℕ, Bool, not, ◌&&◌, ◌||◌, List, codes, filter, map, is_none, Option, Some}
 use Rattle.std.specs.FinMap as file
 use Rattle.std.specs.List.{list_any}
 use Rattle.std.specs.Str.{bytes_eq}
@@ -21,13 +21,13 @@ use Rattle.stage_index.specs.Changes.{is_gitlink}
 abbrev pub is_tracked : List IndexEntry → List ℕ → Bool
 is_tracked from path = list_any (λ e. bytes_eq e.path path) from
 
-abbrev pub is_submodule : Option Entry → Bool
-is_submodule None = false
-is_submodule (Some e) = is_gitlink e.mode
+-- the index has a submodule there, at whatever stage
+abbrev pub is_submodule_at : List IndexEntry → List ℕ → Bool
+is_submodule_at from path = list_any (λ e. bytes_eq e.path path && is_gitlink e.mode) from
 
--- the index has the path, and no submodule there that is merged
+-- the index has the path, and no submodule there
 abbrev pub tracks_file : List IndexEntry → List ℕ → Bool
-tracks_file from path = is_tracked from path && not (is_submodule (entry_at (map_of from) path))
+tracks_file from path = is_tracked from path && not (is_submodule_at from path)
 
 -- a file that would stand outside `.git`, and that the index does not track
 abbrev pub is_untracked : List IndexEntry → List ℕ → Bool
@@ -56,12 +56,16 @@ first_obstructed w from to = least (map (λ e. e.0) (filter (is_obstructed w fro
 -- ---- what is written
 
 -- The path is tracked no longer. What stands at a submodule's path stays.
-abbrev pub is_dropped : Entries → IndexEntry → Bool
-is_dropped to e = is_none (entry_at to e.path) && not (is_gitlink e.mode)
+abbrev pub is_dropped : List IndexEntry → Entries → IndexEntry → Bool
+is_dropped from to e = is_none (entry_at to e.path) && not (is_submodule_at from e.path)
+
+-- of these entries, the removals of the paths that are tracked no longer
+abbrev pub removals_of : List IndexEntry → Entries → List IndexEntry → List Write
+removals_of from to es = map (λ e. Remove e.path) (filter (is_dropped from to) es)
 
 -- the paths that are tracked no longer are removed
 abbrev pub removals : List IndexEntry → Entries → List Write
-removals from to = map (λ e. Remove e.path) (filter (is_dropped to) from)
+removals from to = removals_of from to from
 
 abbrev pub index_write : Entries → Write
 index_write to = Put (codes ".git/index") (index_text (indexed to))

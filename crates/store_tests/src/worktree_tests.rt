@@ -2,6 +2,7 @@
 
 ghost use Rattle.std.specs.Prelude.{◌≡◌, ◌<◌, ◌^◌, IfOk, length};
 
+use index_file::parse_index;
 use seq_base::{Bytes, Entry, Id, Mode, Path, PathMap};
 use seq_memory::{QuietStore, is_content};
 use seq_outside::{Changes, DraftStore, Halt, Lack, StoreError};
@@ -28,6 +29,17 @@ const INDEX: [u8; 168] = [
     0x4b, 0x8b, 0x29, 0xae, 0x77, 0x5a, 0xd8, 0xc2, 0xe4, 0x8c, 0x53, 0x91, 0, 3, 0x64, 0x2f, 0x6e,
     0, 0, 0, 0, 0, 0, 0, 0x18, 0x2a, 0xc3, 0x85, 0x37, 0xdc, 0x9d, 0x34, 0xd5, 0x46, 0x78, 0x40,
     0x51, 0xf2, 0xf6, 0xb, 0x5c, 0xc1, 0x83, 0x2b,
+];
+
+// `git ls-files -s`: 100644 ce01.. 1 m and 160000 ce01.. 2 m.
+const UNMERGED: [u8; 160] = [
+    0x44, 0x49, 0x52, 0x43, 0, 0, 0, 2, 0, 0, 0, 2, 0, 0, 0, 0, 0, 0, 0, 0, 0, 0, 0, 0, 0, 0, 0, 0,
+    0, 0, 0, 0, 0, 0, 0, 0, 0, 0, 0x81, 0xa4, 0, 0, 0, 0, 0, 0, 0, 0, 0, 0, 0, 0, 0xce, 1, 0x36,
+    0x25, 3, 0xb, 0xa8, 0xdb, 0xa9, 6, 0xf7, 0x56, 0x96, 0x7f, 0x9e, 0x9c, 0xa3, 0x94, 0x46, 0x4a,
+    0x10, 1, 0x6d, 0, 0, 0, 0, 0, 0, 0, 0, 0, 0, 0, 0, 0, 0, 0, 0, 0, 0, 0, 0, 0, 0, 0, 0, 0, 0, 0,
+    0xe0, 0, 0, 0, 0, 0, 0, 0, 0, 0, 0, 0, 0, 0, 0xce, 1, 0x36, 0x25, 3, 0xb, 0xa8, 0xdb, 0xa9, 6,
+    0xf7, 0x56, 0x96, 0x7f, 0x9e, 0x9c, 0xa3, 0x94, 0x46, 0x4a, 0x20, 1, 0x6d, 0, 0xe0, 0xaa, 0xf,
+    0x8c, 1, 0x31, 0x42, 0xef, 0x6d, 0x9d, 0x3c, 6, 0xa0, 0xcf, 0x6c, 0x4e, 0x43, 0xcf, 0xfd, 0xc5,
 ];
 
 fn store(alloc: Global, rows: &[(&[u8], &[u8])]) -> Result<QuietStore, Fail> {
@@ -120,6 +132,34 @@ fn a_switch_removes_then_writes_index_and_files(rt: HostRuntime) -> Result<(), F
     }
     assert!(rt; files[0].1.as_slice() == INDEX.as_slice());
     assert!(rt; files[4].1.as_slice().is_empty());
+    Ok(())
+}
+
+// Where a file and a submodule are unmerged at `m`, a file that stands there is none that the index tracks.
+#[test]
+fn what_stands_at_an_unmerged_submodule_stays(rt: HostRuntime) -> Result<(), Fail> {
+    let alloc = rt.alloc();
+    let Ok(from) = parse_index(alloc, &UNMERGED) else {
+        return Err(Fail::from("no index"));
+    };
+    let to = to_map(alloc)?;
+    assert_eq!(rt; to.len(), 2);
+    let mut kept = store(
+        alloc,
+        &[
+            (HELLO_FILE, b"blob 6\0hello\n"),
+            (EMPTY_FILE, b"blob 0\0"),
+            (b"m", b"mine\n"),
+        ],
+    )?;
+    let theirs = file_map(alloc, &[(b"m", HELLO)])?;
+    assert_eq!(rt; theirs.len(), 1);
+    assert!(rt; is_path(obstructed_path(alloc, &mut kept, &from, &theirs), b"m"));
+    assert!(rt; switch(alloc, &mut kept, &from, &to).is_ok());
+    let files = kept.content();
+    assert_eq!(rt; files.len(), 6);
+    assert!(rt; files[5].0.as_slice() == b"m".as_slice());
+    assert!(rt; files[5].1.as_slice() == b"mine\n".as_slice());
     Ok(())
 }
 

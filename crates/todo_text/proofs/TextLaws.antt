@@ -12,8 +12,10 @@ use Rattle.todo_text.specs.declared.line.Line.{Line}
 use Rattle.todo_text.specs.declared.line.Line.TheVariants.{Pick, Exec, Break, Noop, Label, Reset, Merge, UpdateRef}
 use Rattle.todo_text.specs.declared.line.PickKind.{PickKind}
 use Rattle.todo_text.specs.declared.line.PickKind.TheVariants as kind
-use Rattle.todo_text.specs.Words.{unmarked}
-use Rattle.todo_text.specs.Spells.{IsWord, begins_blank, ends_blank, BeginsAll, Leads, Trims, IsNote, IsMergeNote, command_word, arguments, Ends, HasNoFeed, Spells, IsSpelled, pick_word, spaced, note_text, ending, text_of, ends_in_return, line_end, canonical}
+use Rattle.todo_text.specs.declared.line.MergeHow.TheVariants.{Keep}
+use Rattle.todo_text.specs.Words.{unmarked, is_hash}
+use Rattle.todo_text.specs.Names.{is_label}
+use Rattle.todo_text.specs.Spells.{IsWord, begins_blank, ends_blank, BeginsAll, Leads, Trims, IsNote, IsMergeNote, command_word, arguments, Ends, HasNoFeed, is_fit, Spells, IsSpelled, pick_word, spaced, note_text, ending, text_of, ends_in_return, line_end, canonical}
 use Rattle.todo_text.specs.Todos.{is_comment, counts, may_stand, SpellAll, todo_text}
 use Rattle.todo_text.proofs.LineLemmas.{is_feed, first_of_parts}
 use Rattle.todo_text.proofs.TodoLaws.{parts_feed, both_feed, drop_feed, match_false}
@@ -168,12 +170,9 @@ command_good (Reset name note) = ((refl, refl), refl)
 command_good (Merge how head note) = ((refl, refl), refl)
 command_good (UpdateRef name) = ((refl, refl), refl)
 
-pub text_spells : (l : Line) (text : List ℕ) → Spells l text → Spells l (text_of l)
+written_spells : (l : Line) → AreGood (arguments l) → Written l → is_fit l ≡ true → Spells l (text_of l)
 unfolding text_of
-text_spells l text h =
-    let p = parts_of (h.command ∷ arguments l) text h.rest h.one_line h.words in
-    let good = p.good.2 in
-    let written = ending_written l h.rest p.feed h.ends in
+written_spells l good written fit =
     let word = command_good l in
     record {
       one_line = both_feed (command_word l) (spaced (arguments l) ++ ending l) word.1 (both_feed (spaced (arguments l)) (ending l) (words_feed (arguments l) good) written.feed);
@@ -186,8 +185,55 @@ text_spells l text h =
         words_written (arguments l) (ending l) good (ending_apart l),
       );
       ends = written.ends;
-      fit = h.fit;
+      fit = fit;
     }
+
+pub text_spells : (l : Line) (text : List ℕ) → Spells l text → Spells l (text_of l)
+text_spells l text h =
+    let p = parts_of (h.command ∷ arguments l) text h.rest h.one_line h.words in
+    written_spells l p.good.2 (ending_written l h.rest p.feed h.ends) h.fit
+
+-- ---- lines that are built, each of which has a text
+
+-- a word in one line
+pub record IsGoodWord (w : List ℕ) : Type 0 where
+  pub word : IsWord w
+  pub feed : HasNoFeed w
+
+-- a note in one line, with no blank at its ends
+pub record IsGoodNote (note : List ℕ) : Type 0 where
+  pub begins : begins_blank note ≡ false
+  pub ends : ends_blank note ≡ false
+  pub feed : HasNoFeed note
+
+kept_note : (note : List ℕ) → IsGoodNote note → Kept note
+kept_note note h = record { begins = h.begins; ends = h.ends; feed = h.feed }
+
+built : (l : Line) → AreGood (arguments l) → Written l → is_fit l ≡ true → IsSpelled l
+built l good written fit = record { text = text_of l; spells = written_spells l good written fit }
+
+pub noop_spelled : IsSpelled Noop
+noop_spelled = built Noop tt (record { ends = refl; feed = refl }) refl
+
+pub pick_spelled : (rev note : List ℕ) → IsGoodWord rev → IsGoodNote note → IsSpelled (Pick kind.Pick rev note)
+pick_spelled rev note w n =
+    let kept = kept_note note n in
+    built (Pick kind.Pick rev note) (w.word, w.feed, tt) (record { ends = note_written note kept; feed = note_feed note kept }) refl
+
+pub exec_spelled : (command : List ℕ) → (length command == 0 ≡ false) → begins_blank command ≡ false → HasNoFeed command → IsSpelled (Exec command)
+exec_spelled command some begins feed =
+    built (Exec command) tt (record { ends = (some, record { front = 32 ∷ []; blanks = refl; begins = begins; whole = refl }); feed = feed }) refl
+
+pub label_spelled : (name : List ℕ) → IsGoodWord name → is_label name ≡ true → IsSpelled (Label name)
+label_spelled name w fit = built (Label name) (w.word, w.feed, tt) (record { ends = refl; feed = refl }) fit
+
+pub reset_spelled : (name : List ℕ) → IsGoodWord name → IsSpelled (Reset name [])
+reset_spelled name w = built (Reset name []) (w.word, w.feed, tt) (record { ends = note_written [] (record { begins = refl; ends = refl; feed = refl }); feed = refl }) refl
+
+pub merge_spelled : (rev head note : List ℕ) → IsGoodWord rev → IsGoodWord head → IsGoodNote note → not (is_hash head) ≡ true → IsSpelled (Merge (Keep rev) head note)
+merge_spelled rev head note r h n fit =
+    let kept = kept_note note n in
+    built (Merge (Keep rev) head note) ((refl, refl), refl, (r.word, r.feed, (h.word, h.feed, tt))) (record { ends = merge_written note kept; feed = note_feed note kept }) fit
 
 -- ---- lines of what is written
 

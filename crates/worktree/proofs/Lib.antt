@@ -3,3 +3,4 @@ pub mod Owning
 pub mod ReadBlobs
 pub mod SwitchLists
 pub mod Making
+pub mod Unrelated

@@ -1,12 +1,16 @@
 -- The paths that a switch writes.
-use Rattle.std.specs.Prelude.{◌≡◌, ◌⊎◌, List, codes}
+use Rattle.std.specs.Prelude.{◌≡◌, ◌⊎◌, false, List, None, codes}
 use Rattle.std.specs.FinMap as map
 use Rattle.std.specs.List.{AllByRecursion}
+use Rattle.seq_base.specs.PathMaps.{entry_at}
 use Rattle.seq_base.specs.Paths.{IsPath}
 use Rattle.seq_base.specs.Words.{Path}
 use Rattle.seq_base.specs.World.{World}
 use Rattle.seq_outside.specs.declared.write.Write.{Write}
 use Rattle.seq_outside.specs.Writes.{path_of}
+use Rattle.index_file.specs.declared.entry.IndexEntry.{IndexEntry}
+use Rattle.stage_index.specs.Stages.{Entries}
+use Rattle.stage_index.specs.Switching.{is_tracked}
 
 -- that of the index, or one that an index may track
 abbrev pub IsOwn : Path → Type 0
@@ -15,6 +19,16 @@ IsOwn path = (path ≡ codes ".git/index") ⊎ IsPath path
 -- each other file is as it was
 abbrev pub OthersStay : World → World → Type 0
 OthersStay old new = (path : Path) → (IsOwn path → ⊥) → map.get new path ≡ map.get old path
+
+-- a path that is not the index's, and that neither an index nor a map has
+pub record IsUnrelated (from : List IndexEntry) (to : Entries) (path : Path) : Type 0 where
+  pub index : path ≡ codes ".git/index" → ⊥
+  pub tracked : is_tracked from path ≡ false
+  pub mapped : entry_at to path ≡ None
+
+-- what neither of them has is as it was
+abbrev pub UnrelatedStay : List IndexEntry → Entries → World → World → Type 0
+UnrelatedStay from to old new = (path : Path) → IsUnrelated from to path → map.get new path ≡ map.get old path
 
 abbrev pub HasOwnPath : Write → Type 0
 HasOwnPath write = IsOwn (path_of write)

@@ -1,7 +1,8 @@
 -- Index and files that are switched to another map, as steps over a world (git-read-tree(1), "Two Tree Merge"; git-switch(1)).
-use Rattle.std.specs.Prelude.{List, [], ◌∷◌, Result}
+use Rattle.std.specs.Prelude.{◌≡◌, ◌⊎◌, List, [], ◌∷◌, Result, Ok}
 use Rattle.seq_base.specs.World.{World}
 use Rattle.seq_outside.specs.Halts.{stop_found}
+use Rattle.seq_outside.specs.Writes.{IsFront}
 use Rattle.seq_outside.specs.Turns.{◌>>=◌, Turn, gives, looks, put_in, removed}
 use Rattle.seq_outside.specs.declared.lack.Lack.{Lack}
 use Rattle.seq_outside.specs.declared.lack.Lack.TheVariants.{Way}
@@ -28,6 +29,10 @@ unfoldable pub switched_clear : List IndexEntry → Entries → Turn Lack (Unit 
 switched_clear from to = do
   writes ← looks (λ w. clear_writes w from to)
   writes_made writes
+
+-- a front of what switches them was made
+abbrev pub IsSwitchFront : List IndexEntry → Entries → World → World → Type 0
+IsSwitchFront from to old new = (new ≡ old) ⊎ ((writes : List Write) × (clear_writes old from to ≡ Ok writes) × IsFront old writes new)
 
 -- no untracked file is in the way of a path
 unfoldable pub unobstructed : World → List IndexEntry → Entries → Result (Unit {0}) Lack

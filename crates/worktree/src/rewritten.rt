@@ -6,7 +6,7 @@ ghost use Rattle.seq_base.specs.PathMaps.{same_entry};
 ghost use Rattle.stage_index.specs.Changes.{is_gitlink as is_gitlink_mode};
 ghost use Rattle.stage_index.specs.Stages.{merged_entry, row_of};
 ghost use Rattle.stage_index.specs.Switching.{is_kept as is_kept_in, is_rewritten as is_rewritten_in};
-ghost use Rattle.stage_index.specs.Switching.{is_submodule as is_submodule_entry, tracks_file as tracks_file_in};
+ghost use Rattle.stage_index.specs.Switching.{is_submodule_at as is_submodule_at_path, tracks_file as tracks_file_in};
 ghost use Rattle.stage_index.specs.Switching.{is_tracked as is_tracked_in, is_untracked as is_untracked_in};
 
 use index_file::IndexEntry;
@@ -57,25 +57,33 @@ pub(crate) fn is_tracked(from: &[IndexEntry], path: &[u8]) -> bool
     tracked(from, path).is_some()
 }
 
-/// Whether the entry is a submodule's, and merged.
-fn is_submodule(entry: &IndexEntry) -> bool
-    ensures { result ≡ is_submodule_entry (merged_entry (Some entry.now)) }
+fn has_submodule(from: &[IndexEntry], path: &[u8]) -> bool
+    ensures { result ≡ is_submodule_at_path from.now path.now }
 {
-    if entry.stage != 0 {
-        return false;
-    }
-    is_gitlink(entry.mode)
+    from.iter().any(|entry| entry.path.bytes() == path && is_gitlink(entry.mode))
 }
 
-/// Whether the index has the path, and no submodule there that is merged.
+/// Whether the index has a submodule at the path, at whatever stage. Only at an unmerged path all entries are gone through.
+#[tactic(auto, using(stage_index::proofs::Tracking::submodule_merged, stage_index::proofs::Tracking::no_submodule))]
+pub(crate) fn is_submodule_at(from: &[IndexEntry], path: &[u8]) -> bool
+    requires { IsInOrder from.now }
+    ensures { result ≡ is_submodule_at_path from.now path.now }
+{
+    let Some(entry) = tracked(from, path) else {
+        return false;
+    };
+    if entry.stage == 0 {
+        return is_gitlink(entry.mode);
+    }
+    has_submodule(from, path)
+}
+
+/// Whether the index has the path, and no submodule there.
 fn tracks_file(from: &[IndexEntry], path: &[u8]) -> bool
     requires { IsInOrder from.now }
     ensures { result ≡ tracks_file_in from.now path.now }
 {
-    match tracked(from, path) {
-        Some(entry) => !is_submodule(entry),
-        None => false,
-    }
+    is_tracked(from, path) && !is_submodule_at(from, path)
 }
 
 /// Whether a file that stands there lies outside `.git`, and the index does not track it.

@@ -6,8 +6,8 @@ ghost use Rattle.seq_outside.specs.Halts.{Gives, halt_cause};
 ghost use Rattle.seq_outside.specs.Seen.{Reads, Writes, store_cause};
 ghost use Rattle.seq_outside.specs.Turns.{Turns};
 ghost use Rattle.stage_index.specs.Switching.{first_obstructed as first_obstructed_in};
-ghost use Rattle.worktree.specs.Own.{OthersStay};
-ghost use Rattle.worktree.specs.Switches.{switched, switched_clear, unobstructed};
+ghost use Rattle.worktree.specs.Own.{OthersStay, UnrelatedStay};
+ghost use Rattle.worktree.specs.Switches.{IsSwitchFront, switched, switched_clear, unobstructed};
 
 use crate::make::make_writes;
 use crate::obstacle::first_obstructed;
@@ -59,8 +59,9 @@ fn stop_obstructed<S: Store>(
 
 /// Switches index and files from what an index tracks to a map, where `obstructed_path` is None: what is tracked no longer is
 /// removed, then the index is written, then the files, in path order. All blobs are read before anything changes. The first that is
-/// missing, damaged or of another kind is Object, and one that is too large Limit. A blocked put is Way.
-#[tactic(auto, unfolding(crate::specs::Switches::switched_clear), using(crate::proofs::Owning::own_none))]
+/// missing, damaged or of another kind is Object, and one that is too large Limit. A blocked put is Way, and those before it have been
+/// made. Whatever ends it, a front of the writes was made.
+#[tactic(auto, unfolding(crate::specs::Switches::switched_clear), using(crate::proofs::Owning::own_none, crate::proofs::Unrelated::unrelated_stay))]
 pub fn switch_clear<S: Store>(
     alloc: Global,
     store: &mut S,
@@ -70,6 +71,8 @@ pub fn switch_clear<S: Store>(
     requires order { IsInOrder from.now }
     requires few { length to.now < 2 ^ 32 }
     ensures turns { S.told → Turns (λ x. x) result (switched_clear from.now to.now (S.seen store.old).content) (S.seen store.new).content }
+    ensures front { S.told → IsSwitchFront from.now to.now (S.seen store.old).content (S.seen store.new).content }
+    ensures unrelated { S.told → UnrelatedStay from.now to.now (S.seen store.old).content (S.seen store.new).content }
     ensures elsewhere { S.told → OthersStay (S.seen store.old).content (S.seen store.new).content }
     ensures writes { Writes S.told halt_cause result (S.seen store.old) (S.seen store.new) }
 {
@@ -78,8 +81,9 @@ pub fn switch_clear<S: Store>(
 }
 
 /// Switches index and files from what an index tracks to a map (git-read-tree(1), "Two Tree Merge"; git-switch(1)). The least path
-/// that would be written where an untracked file is in its way is Way, and nothing has changed. Else it is `switch_clear`.
-#[tactic(auto, unfolding(crate::specs::Switches::switched))]
+/// that would be written where an untracked file is in its way is Way, and nothing has changed. Else it is `switch_clear`, whose own Way
+/// may come behind some of its writes.
+#[tactic(auto, unfolding(crate::specs::Switches::switched), using(crate::proofs::Unrelated::unrelated_stay))]
 pub fn switch<S: Store>(
     alloc: Global,
     store: &mut S,
@@ -89,6 +93,8 @@ pub fn switch<S: Store>(
     requires order { IsInOrder from.now }
     requires few { length to.now < 2 ^ 32 }
     ensures turns { S.told → Turns (λ x. x) result (switched from.now to.now (S.seen store.old).content) (S.seen store.new).content }
+    ensures front { S.told → IsSwitchFront from.now to.now (S.seen store.old).content (S.seen store.new).content }
+    ensures unrelated { S.told → UnrelatedStay from.now to.now (S.seen store.old).content (S.seen store.new).content }
     ensures elsewhere { S.told → OthersStay (S.seen store.old).content (S.seen store.new).content }
     ensures writes { Writes S.told halt_cause result (S.seen store.old) (S.seen store.new) }
 {

@@ -10,12 +10,12 @@ ghost use Rattle.seq_outside.specs.Halts.{Gives, halt_cause};
 ghost use Rattle.seq_outside.specs.Seen.{Reads};
 ghost use Rattle.seq_outside.specs.Writes.{HasStorePath};
 ghost use Rattle.stage_index.specs.Stages.{map_of, row_of};
-ghost use Rattle.stage_index.specs.Switching.{is_dropped as is_dropped_from, removals};
+ghost use Rattle.stage_index.specs.Switching.{is_dropped as is_dropped_from, removals, removals_of};
 ghost use Rattle.worktree.specs.Own.{AreOwn};
 ghost use Rattle.worktree.specs.Writes.{Appends, clear_writes as clear_writes_of, rewritten};
 
 use crate::blob::read_blob;
-use crate::rewritten::{is_gitlink, is_rewritten};
+use crate::rewritten::{is_rewritten, is_submodule_at};
 use index_file::{IndexEntry, index_text};
 use seq_base::{Bytes, Path, PathMap};
 use seq_outside::{Halt, Lack, Store, Write};
@@ -41,26 +41,29 @@ fn lacks(index: &[IndexEntry], path: &[u8]) -> bool
 }
 
 /// Whether the entry's path is tracked no longer, and is no submodule's.
-fn is_dropped(entry: &IndexEntry, to: &[IndexEntry]) -> bool
-    requires { IsInOrder to.now }
-    ensures { result ≡ is_dropped_from (map_of to.now) entry.now }
+fn is_dropped(from: &[IndexEntry], entry: &IndexEntry, to: &[IndexEntry]) -> bool
+    requires from { IsInOrder from.now }
+    requires to { IsInOrder to.now }
+    ensures { result ≡ is_dropped_from from.now (map_of to.now) entry.now }
 {
-    lacks(to, entry.path.bytes()) && !is_gitlink(entry.mode)
+    lacks(to, entry.path.bytes()) && !is_submodule_at(from, entry.path.bytes())
 }
 
 /// Removes the entry's path, if it is tracked no longer.
 #[tactic(auto, using(crate::proofs::Owning::own_more))]
 fn push_removal(
     alloc: Global,
+    from: &[IndexEntry],
     entry: &IndexEntry,
     to: &[IndexEntry],
     writes: &mut Vec<Write>,
 ) -> Result<(), AllocError>
-    requires { IsInOrder to.now }
-    ensures pushed { OnOk result (writes.new.items ≡ writes.old.items ++ removals (entry.now ∷ []) (map_of to.now)) }
+    requires from { IsInOrder from.now }
+    requires to { IsInOrder to.now }
+    ensures pushed { OnOk result (writes.new.items ≡ writes.old.items ++ removals_of from.now (map_of to.now) (entry.now ∷ [])) }
     ensures own { OnOk result (AreOwn writes.old.items → AreOwn writes.new.items) }
 {
-    if !is_dropped(entry, to) {
+    if !is_dropped(from, entry, to) {
         return Ok(());
     }
     let path = bytes_of(alloc, &entry.path)?;
@@ -74,13 +77,14 @@ fn push_removals(
     to: &[IndexEntry],
     writes: &mut Vec<Write>,
 ) -> Result<(), AllocError>
-    requires { IsInOrder to.now }
+    requires from { IsInOrder from.now }
+    requires to { IsInOrder to.now }
     ensures pushed { OnOk result (writes.new.items ≡ writes.old.items ++ removals from.now (map_of to.now)) }
     ensures own { OnOk result (AreOwn writes.old.items → AreOwn writes.new.items) }
 {
     let mut rest = from;
     while let [entry, after @ ..] = rest {
-        push_removal(alloc, entry, to, writes)?;
+        push_removal(alloc, from, entry, to, writes)?;
         rest = after;
     }
     Ok(())

@@ -1,4 +1,4 @@
-use Rattle.std.proofs.Common.{◌≡◌, ℕ, ◌+◌, sym, ap, ◌∙◌, []}
+use Rattle.std.proofs.Common.{ℕ, ◌+◌, sym, ap, ◌∙◌, []}
 use Rattle.std.proofs.lemmas.Result.{err_from_is_err_and}
 use Rattle.index_file.specs.Reading.{entry_at, entries_at}
 use Rattle.index_file.proofs.EntryLoop.{goes_on, entry_fails, append_fails, appended_len, is_done}

@@ -1,6 +1,4 @@
-use Rattle.std.proofs.Common.{◌≡◌, ℕ, ◌/◌, ◌%◌, ◌==◌, List, true, false, Ok, Err, refl, sym, ap, ◌∙◌, eq-eqb}
-use Rattle.seq_base.specs.declared.mode.Mode.{Mode}
-use Rattle.index_file.specs.Reading.{entry_of, are_zero, is_path}
+use Rattle.std.proofs.Common.{◌/◌, ◌%◌, sym, eq-eqb}
 use Rattle.index_file.proofs.PathTests.{path_passes, entry_good, entry_fails}
 use Rattle.index_file.proofs.read.entry_with_fields.Goals as goal
 

@@ -1,4 +1,4 @@
-use Rattle.std.proofs.Common.{◌≡◌, ℕ, suc, ◌+◌, ◌-◌, ◌<◌, ◌≤◌, ◌==◌, false, true, length, sym, ◌∙◌, subst, arith, eq-eqb, Result, Ok, Err, List}
+use Rattle.std.proofs.Common.{ℕ, suc, ◌≤◌, length, sym, ◌∙◌, arith, eq-eqb}
 use Rattle.std.proofs.lemmas.Result.{err_from_is_err_and}
 use Rattle.std.proofs.lemmas.Bool.{ne_eqb}
 use Rattle.index_file.proofs.Trailers.{shorter, any_bound, trailer_more, trailer_end, trailer_fails, fails_along}

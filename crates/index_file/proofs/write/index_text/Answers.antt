@@ -1,5 +1,5 @@
 use Rattle.index_file.specs.Spelling.{Spells}
-use Rattle.std.proofs.Common.{List, ℕ, ◌≡◌, sym, subst}
+use Rattle.std.proofs.Common.{List, ℕ, sym, subst}
 use Rattle.index_file.proofs.Whole.{text_spells}
 use Rattle.index_file.proofs.Written.{one_more_entry, one_more_row, all_rows_are, finished}
 use Rattle.index_file.proofs.write.index_text.Goals as goal

@@ -10,7 +10,7 @@ use Rattle.object_text.specs.TreeMaps.{tree_id, tree_object}
 use Rattle.object_text.specs.Trees.{HaveIds, IsTreeOrder}
 use Rattle.objects.specs.Puts.{object_put}
 use Rattle.path_trees.specs.Puts.{HasPut}
-use Rattle.path_trees.specs.Rows.{Rows}
+use Rattle.seq_base.specs.PathMaps.{Entries}
 use Rattle.path_trees.proofs.Folders.{HasGroup, IsWay, falls, group_at, nothing, slash_found, way_ends, way_file, way_folder, way_ids, way_ordered, way_root, way_stops}
 use Rattle.path_trees.proofs.write.+put_folder.Goals as goal
 use Rattle.path_trees.proofs.write.+put_folder.Goals.{After-split_at, In_default}
@@ -57,11 +57,20 @@ returns-in_err-id-in-Some-clause-put g t c told =
     (g.S.Store.seen c.args.store.now).content (g.S.Store.seen c.loop-rest.store).content c.in_err-id-in-Some.field-0.0 (g.S.Store.seen c.put_folder.new.store).content
     c.loop-rest.invariant.way (met g t (goal.at.returns-in_err-id-in-Some-clause-put g t c).After-split_at) told (c.in_err-id-in-Some.ensures.put told))
 
+pub returns-in_err-id-in-Some-clause-keeps : goal.returns-in_err-id-in-Some-clause-keeps
+returns-in_err-id-in-Some-clause-keeps g t c told path text there = c.in_err-id-in-Some.ensures.keeps told path text (c.loop-rest.invariant.way.keeps told path text there)
+
 pub returns-in_err-id-in-Some-clause-elsewhere : goal.returns-in_err-id-in-Some-clause-elsewhere
 returns-in_err-id-in-Some-clause-elsewhere g t c told path other = c.in_err-id-in-Some.ensures.elsewhere told path other ∙ c.loop-rest.invariant.way.stays told path other
 
+pub returns-in_err-entry-in-Some-clause-keeps : goal.returns-in_err-entry-in-Some-clause-keeps
+returns-in_err-entry-in-Some-clause-keeps g t c told path text there = c.in_ok-id-in-Some.ensures.keeps told path text (c.loop-rest.invariant.way.keeps told path text there)
+
 pub returns-in_err-entry-in-Some-clause-elsewhere : goal.returns-in_err-entry-in-Some-clause-elsewhere
 returns-in_err-entry-in-Some-clause-elsewhere g t c told path other = c.in_ok-id-in-Some.ensures.elsewhere told path other ∙ c.loop-rest.invariant.way.stays told path other
+
+pub returns-in_err-push-in-Some-clause-keeps : goal.returns-in_err-push-in-Some-clause-keeps
+returns-in_err-push-in-Some-clause-keeps g t c told path text there = c.in_ok-id-in-Some.ensures.keeps told path text (c.loop-rest.invariant.way.keeps told path text there)
 
 pub returns-in_err-push-in-Some-clause-elsewhere : goal.returns-in_err-push-in-Some-clause-elsewhere
 returns-in_err-push-in-Some-clause-elsewhere g t c told path other = c.in_ok-id-in-Some.ensures.elsewhere told path other ∙ c.loop-rest.invariant.way.stays told path other
@@ -77,7 +86,7 @@ loop-rest-preserved g t c =
     let id = c.in_ok-id-in-Some.id in
     let items : c.push-in-Some.new.self.items ≡ c.loop-rest.entries.items ++ record { mode = Folder; name = name; id = id } ∷ [] = c.in_ok-push-in-Some.ensures.items ∙ ap (λ (e : TreeEntry). c.loop-rest.entries.items ++ e ∷ []) c.in_ok-entry-in-Some.ensures in
     let way = way_folder g.S.Store.told c.args.skip (c.args.skip + c.in-Some.at + 1) c.args.rows.now c.loop-rest.rest.now c.split_at.result.0.now c.split_at.result.1.now name id c.loop-rest.entries.items (g.S.Store.seen c.args.store.now).content (g.S.Store.seen c.loop-rest.store).content new
-    c.loop-rest.invariant.way (met g t (goal.at.loop-rest-preserved g t c).After-split_at) c.in_ok-id-in-Some.ensures.root c.in_ok-id-in-Some.ensures.elsewhere c.in_ok-id-in-Some.ensures.ids c.in_ok-id-in-Some.ensures.put in
+    c.loop-rest.invariant.way (met g t (goal.at.loop-rest-preserved g t c).After-split_at) c.in_ok-id-in-Some.ensures.root c.in_ok-id-in-Some.ensures.elsewhere c.in_ok-id-in-Some.ensures.keeps c.in_ok-id-in-Some.ensures.ids c.in_ok-id-in-Some.ensures.put in
     record {
       way = subst (λ (es : List TreeEntry). IsWay g.S.Store.told c.args.skip c.args.rows.now c.split_at.result.1.now es (g.S.Store.seen c.args.store.now).content new) (sym items) way;
       cause = search rules;
@@ -87,7 +96,7 @@ loop-rest-preserved g t c =
 over : (g : _) (t : ℕ) (c : In_default g t) → IsWay g.S.Store.told c.args.skip c.args.rows.now [] c.loop-rest.entries.items (g.S.Store.seen c.args.store.now).content (g.S.Store.seen c.loop-rest.store).content
 over g t c =
     let none : length c.loop-rest.rest.now ≡ 0 = omega arith in
-    subst (λ (left : Rows). IsWay g.S.Store.told c.args.skip c.args.rows.now left c.loop-rest.entries.items (g.S.Store.seen c.args.store.now).content (g.S.Store.seen c.loop-rest.store).content) (nothing c.loop-rest.rest.now none) c.loop-rest.invariant.way
+    subst (λ (left : Entries). IsWay g.S.Store.told c.args.skip c.args.rows.now left c.loop-rest.entries.items (g.S.Store.seen c.args.store.now).content (g.S.Store.seen c.loop-rest.store).content) (nothing c.loop-rest.rest.now none) c.loop-rest.invariant.way
 
 pub put_tree-requires : goal.put_tree-requires
 put_tree-requires g t c =
@@ -105,6 +114,9 @@ pub returns-clause-root : goal.returns-clause-root
 returns-clause-root g t c =
     let root = subst (λ (es : List TreeEntry). IfOk c.put_tree.result (λ id. id ≡ tree_id es)) c.deref.ensures.value c.put_tree.ensures.root in
     way_root g.S.Store.told c.args.skip c.args.rows.now c.loop-rest.entries.items (g.S.Store.seen c.args.store.now).content (g.S.Store.seen c.loop-rest.store).content c.put_tree.result (over g t (goal.at.returns-clause-root g t c).In_default) root
+
+pub returns-clause-keeps : goal.returns-clause-keeps
+returns-clause-keeps g t c told path text there = c.put_tree.ensures.keeps told path text (c.loop-rest.invariant.way.keeps told path text there)
 
 pub returns-clause-elsewhere : goal.returns-clause-elsewhere
 returns-clause-elsewhere g t c told path other = c.put_tree.ensures.elsewhere told path other ∙ c.loop-rest.invariant.way.stays told path other
