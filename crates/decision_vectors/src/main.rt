@@ -8,6 +8,7 @@ mod merges;
 mod outcomes;
 mod plans;
 mod refusals;
+mod stages;
 mod stops;
 mod verbs;
 

@@ -1,6 +1,6 @@
 //! The verbs.
 
-use crate::{attributes, graphs, merges, outcomes, plans};
+use crate::{attributes, graphs, merges, outcomes, plans, stages};
 use cases::{Case, CaseFault, Verbs};
 
 /// The verbs of the crates that decide.
@@ -8,8 +8,24 @@ pub struct DecisionVerbs;
 
 impl Verbs for DecisionVerbs {
     fn answer(&self, verb: &[u8], case: &mut Case<'_>) -> Result<bool, CaseFault> {
-        Ok(of_merges(verb, case)? || of_plans(verb, case)? || of_words(verb, case)?)
+        Ok(
+            of_stages(verb, case)?
+                || of_merges(verb, case)?
+                || of_plans(verb, case)?
+                || of_words(verb, case)?,
+        )
     }
+}
+
+/// The crate stage_index.
+fn of_stages(verb: &[u8], case: &mut Case<'_>) -> Result<bool, CaseFault> {
+    match verb {
+        b"unmerged" => stages::unmerged_paths(case)?,
+        b"to-map" => stages::map_of_index(case)?,
+        b"set-stages" => stages::with_stages(case)?,
+        _ => return Ok(false),
+    }
+    Ok(true)
 }
 
 /// The crates tree_merge and merge_base.

@@ -50,7 +50,7 @@ fn answers_are_printed(rt: HostRuntime) -> Result<(), Fail> {
     let pick = ["cherry-pick", "abc"];
     assert!(rt; answers(alloc, true, &[], "usage no-verb\n", 2)?);
     assert!(rt; answers(alloc, true, &["log"], "usage unknown-verb log\n", 2)?);
-    assert!(rt; answers(alloc, true, &pick, "refused not-built\n", 3)?);
+    assert!(rt; answers(alloc, true, &pick, "refused no-such-rev abc\n", 3)?);
     assert!(rt; answers(alloc, false, &pick, "refused not-a-repository\n", 3)?);
     Ok(())
 }

@@ -39,7 +39,8 @@ places items = places_from false items
 -- the subject says what the commit is for, not what the message is to be
 unfoldable pub is_marked_subject : Bool → List ℕ → Bool
 is_marked_subject is_squashed line =
-    starts_with nat_eq line (codes "amend! ") || (is_squashed && (starts_with nat_eq line (codes "squash! ") || starts_with nat_eq line (codes "fixup! ")))
+    starts_with nat_eq line (codes "amend! ")
+    || (is_squashed && (starts_with nat_eq line (codes "squash! ") || starts_with nat_eq line (codes "fixup! ")))
 
 -- the first paragraph of its message is no part of what is kept
 unfoldable pub is_marked : Place → Bool

@@ -1,14 +1,14 @@
 -- Reading the first lines of a tag.
-use Rattle.std.proofs.Common.{◌≡◌, ℕ, true, List, [], ◌∷◌, ◌++◌, refl, sym, ap, subst, ◌∙◌, append_assoc, arith}
+use Rattle.std.proofs.Common.{◌≡◌, ℕ, true, List, [], ◌∷◌, ◌++◌, Result, Ok, Err, refl, sym, ap, subst, ◌∙◌, append_assoc, arith}
 use Rattle.std.specs.Prelude.{codes}
 use Rattle.std.specs.List.{list_all}
 use Rattle.std.proofs.lemmas.List.{append-nil}
 use Rattle.grammar.specs.Grammar.{AllBytes}
-use Rattle.grammar.specs.Readers.{Reads, HasText, Then, then_at, Nothing, nothing_at, Word, valued_at, Run, run_at, Literal, literal_at}
+use Rattle.grammar.specs.Readers.{◌>>=◌, Reads, ReadsAll, HasText, Then, then_all, then_at, Nothing, nothing_at, Word, valued_at, Run, run_at, Literal, literal_at}
 use Rattle.grammar.specs.Keywords.{may_of, value_of}
 use Rattle.grammar.proofs.Keywords.{keywords, value_text}
-use Rattle.grammar.proofs.Laws.{nothing_reads, then_reads}
-use Rattle.grammar.proofs.FieldLaws.{literal_has, literal_reads, reads_same}
+use Rattle.grammar.proofs.Laws.{nothing_reads, ok_is, then_reads, then_reads_all}
+use Rattle.grammar.proofs.FieldLaws.{literal_has, literal_reads, reads_all_same, reads_same}
 use Rattle.grammar.proofs.Passing.{run_has, run_reads}
 use Rattle.grammar.proofs.Words.{valued_reads, word_has}
 use Rattle.ident_text.specs.Ids.{id_from}
@@ -21,6 +21,7 @@ use Rattle.object_text.specs.Commits.{is_in_line, line}
 use Rattle.object_text.specs.ReadCommits.{keyed_from}
 use Rattle.object_text.specs.ReadObjects.{kinds}
 use Rattle.object_text.specs.Store.{tagged_from}
+use Rattle.object_text.specs.Tags.{IsTag}
 use Rattle.object_text.proofs.CommitLaws.{Keyed, keyed_reads}
 use Rattle.object_text.proofs.ObjectLaws.{kind_value, kinds_have}
 
@@ -157,3 +158,32 @@ from_lines id text h =
 
 pub tag_reads : Reads AreTagLines tagged_from
 tag_reads = reads_same Parts AreTagLines tagged_from to_lines from_lines parts_read
+
+-- ---- all of a tag's content, of which what stands behind the first lines is not read
+
+abbrev WithRest : List ℕ → List ℕ → Type 0
+WithRest = Then AreTagLines (λ id found _. found ≡ id)
+
+to_tag : (id text : List ℕ) → WithRest id text → IsTag id text
+to_tag id text g =
+    let t = g.3 in
+    subst (λ (i : List ℕ). IsTag i text) (sym g.4)
+    (record { digits = t.digits; kind = t.kind; name = t.name; rest = g.2; is_id = t.is_id; is_name = t.is_name; text_is = g.5 ∙ ap (λ (l : List ℕ). l ++ g.2) t.text_is })
+
+from_tag : (id text : List ℕ) → IsTag id text → WithRest id text
+from_tag id text t = (
+  id,
+  line (codes "object " ++ t.digits) ++ line (codes "type " ++ kind_text t.kind) ++ line (codes "tag " ++ t.name),
+  t.rest,
+  record { digits = t.digits; kind = t.kind; name = t.name; is_id = t.is_id; is_name = t.is_name; text_is = refl },
+  refl,
+  t.text_is,
+)
+
+abbrev pub named_from : List ℕ → Result (List ℕ) ℕ
+named_from = then_all tagged_from (λ id _. Ok id)
+
+pub named_reads : ReadsAll IsTag named_from
+named_reads =
+    reads_all_same WithRest IsTag named_from to_tag from_tag
+    (then_reads_all AreTagLines (λ id found _. found ≡ id) tagged_from (λ id _. Ok id) tag_reads (λ id _ _. record { takes = λ _ x e. ok_is x id (sym e); again = λ x _ e. ap Ok (sym e); stops = λ _ left e. absurd cc }) (λ id _ _. (id, [], tt, refl)))

@@ -90,15 +90,20 @@ entries_if_tree Tag content = None
 unfoldable pub tree_at : World → Id → Option (List TreeEntry)
 tree_at w id = option_and_then (λ o. entries_if_tree o.kind o.bytes) (object_at w id)
 
+-- the id, and what stands behind the tag's kind and name
+abbrev pub tag_lines_from : Id → Text → Result (Id × Text) ℕ
+tag_lines_from id bytes = do
+  type ← literal_at (codes "type ") bytes
+  kind ← valued_at (may_of kinds) (value_of kinds) 10 type.1
+  tag ← literal_at (codes "tag ") kind.1
+  name ← run_at is_in_line 10 tag.1
+  Ok (id, name.1)
+
 -- the id that a tag names, and what stands behind its first lines
 unfoldable pub tagged_from : Text → Result (Id × Text) ℕ
 tagged_from bytes = do
   object ← keyed_from (codes "object ") id_from bytes
-  type ← literal_at (codes "type ") object.1
-  kind ← valued_at (may_of kinds) (value_of kinds) 10 type.1
-  tag ← literal_at (codes "tag ") kind.1
-  name ← run_at is_in_line 10 tag.1
-  Ok (object.0, name.1)
+  tag_lines_from object.0 object.1
 
 -- the object that a tag names
 unfoldable pub named_of : Text → Option Id

@@ -8,6 +8,7 @@ mod header;
 mod headers;
 mod laws;
 mod object;
+mod tag;
 mod tree;
 mod tree_name;
 
@@ -18,4 +19,5 @@ pub use laws::{
     author_reads_as_ident, commit_is_kept, map_is_led_to, object_is_kept, tag_is_kept, tree_is_kept,
 };
 pub use object::{Kind, Object, object_header, object_text, parse_object};
+pub use tag::parse_tag;
 pub use tree::{TreeEntry, parse_tree, tree_text};

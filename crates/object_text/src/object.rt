@@ -3,7 +3,8 @@
 ghost use Rattle.std.specs.Prelude.{◌≡◌, ◌++◌, ◌<◌, ◌^◌, IfOk, MatchOption, length};
 ghost use Rattle.grammar.specs.Gives.{Gives};
 ghost use Rattle.grammar.specs.Grammar.{IsReading};
-ghost use Rattle.grammar.specs.Keywords.{may_of};
+ghost use Rattle.grammar.specs.Keywords.{may_of, value_of};
+ghost use Rattle.grammar.specs.Readers.{valued_at};
 ghost use Rattle.object_text.specs.Faults.{IsTextFault};
 ghost use Rattle.object_text.specs.Objects.{header_text as header_of_object, kind_text as text_of_kind, object_text as text_of_object, IsObject};
 ghost use Rattle.object_text.specs.ReadObjects.{kinds, kind_from, sized_from, object_from};
@@ -65,18 +66,26 @@ fn kind_named(word: &[u8]) -> Option<Kind>
     }
 }
 
-#[tactic(auto, unfolding(crate::specs::ReadObjects::kind_from), using(crate::proofs::ObjectLaws::kind_read))]
-fn kind_of(bytes: &[u8]) -> Result<(Kind, &[u8]), ReadError>
-    ensures { Gives (λ x. (x.0, x.1.now)) result (kind_from bytes.now) }
+/// The kind whose word stands before the byte that ends it, and what stands behind that byte.
+#[tactic(auto, using(crate::proofs::ObjectLaws::kind_read))]
+pub fn kind_until(stop: u8, bytes: &[u8]) -> Result<(Kind, &[u8]), ReadError>
+    ensures { Gives (λ x. (x.0, x.1.now)) result (valued_at (may_of kinds) (value_of kinds) stop bytes.now) }
 {
     let mut scan = KindScan;
-    let (word, rest) = span_of(&mut scan, b' ', bytes)?;
+    let (word, rest) = span_of(&mut scan, stop, bytes)?;
     match kind_named(word) {
         Some(kind) => Ok((kind, rest)),
         None => Err(ReadError::Stopped {
             left: rest.len() + 1,
         }),
     }
+}
+
+#[tactic(auto, unfolding(crate::specs::ReadObjects::kind_from))]
+fn kind_of(bytes: &[u8]) -> Result<(Kind, &[u8]), ReadError>
+    ensures { Gives (λ x. (x.0, x.1.now)) result (kind_from bytes.now) }
+{
+    kind_until(b' ', bytes)
 }
 
 fn len_of(bytes: &[u8]) -> u64

@@ -9,7 +9,7 @@ mod read;
 mod write;
 
 pub use fault::ObjectFault;
-pub use named::{read_commit, read_object, write_object};
+pub use named::{read_commit, read_object, spelled_commit, write_object};
 pub use place::CONTENT_LIMIT;
 pub use prefix::{is_prefix, with_prefix};
 pub use read::get;

@@ -74,9 +74,10 @@ fn commit_halt(id: Id, fault: TextFault) -> Halt<Lack>
     }
 }
 
-/// The commit that a content spells.
+/// The commit that the content of an object spells. Object with the object's id where it spells none, Limit where the commit has more than
+/// 16 parents.
 #[tactic(auto, using(crate::proofs::Naming::few_parents, crate::proofs::Naming::commit_fault))]
-fn spelled_commit(alloc: Global, id: Id, content: &[u8]) -> Result<Commit, Halt<Lack>>
+pub fn spelled_commit(alloc: Global, id: Id, content: &[u8]) -> Result<Commit, Halt<Lack>>
     ensures gives { Gives (λ c. c) result (commit_spelled id content.now) }
     ensures value { IfOk result IsCommitValue }
     ensures no_fault { IsErrOf result Halt.Fault → ⊥ }

@@ -17,7 +17,7 @@ use Rattle.seq_base.specs.World.{World}
 use Rattle.seq_outside.specs.Halts.{Denies, halt_cause}
 use Rattle.seq_outside.specs.Causes.{Rose}
 use Rattle.seq_outside.specs.Seen.{Cause, HasCause, HasReadCause, NoneBlocked, Seen, Stays}
-use Rattle.seq_outside.specs.Seen.Cause.{ByBlock, ByEither, ByFault, ByNone}
+use Rattle.seq_outside.specs.Seen.Cause.{ByBlock, ByFault, ByNone}
 use Rattle.seq_outside.specs.Turns.{Turns}
 use Rattle.seq_outside.specs.declared.lack.Lack.{Lack}
 use Rattle.path_trees.specs.Faults.{tree_cause}
@@ -98,4 +98,3 @@ read_after told old now new ByFault first then =
     let same = first.0 in
     (omega (arith, least, same), subst (λ (n : ℕ). Rose n new.faults) same then.1, none_blocked old now new first.1 then.2, stays_after told old now new first.2 then.3)
 read_after told old now new ByBlock first then = absurd then
-read_after told old now new ByEither first then = absurd then

@@ -1,26 +1,28 @@
 //! The paths of a tree's entries.
 
-ghost use Rattle.std.specs.Prelude.{◌≡◌, IfOk};
+ghost use Rattle.std.specs.Prelude.{◌≡◌, IfErr, IfOk};
 ghost use Rattle.object_text.specs.TreeMaps.{below};
 ghost use Rattle.object_text.specs.Trees.{IsTreeOrder};
+ghost use Rattle.seq_base.specs.Paths.{IsPath, IsPathFaultOrMemory};
 ghost use Rattle.path_trees.specs.Faults.{path_fault_at};
 ghost use Rattle.path_trees.specs.Rows.{GivesRows, IsFolder};
 
 use crate::fault::TreeFault;
 use object_text::TreeEntry;
 use seq_base::{Entry, Id, Path, PathFault};
-use std::alloc::{AllocError, Global};
+use std::alloc::Global;
 
-fn path_below(alloc: Global, folder: &[u8], name: &[u8]) -> Result<Vec<u8>, AllocError>
-    ensures { IfOk result (λ path. path.items ≡ below folder.now name.now) }
+/// The path of a name below a folder, or why it is none.
+fn path_below(alloc: Global, folder: &[u8], name: &[u8]) -> Result<Path, PathFault>
+    requires { IsFolder folder.now }
+    ensures ok { IfOk result (λ path. (path ≡ below folder.now name.now) × IsPath (below folder.now name.now)) }
+    ensures fault { IfErr result (IsPathFaultOrMemory (below folder.now name.now)) }
 {
     if folder.is_empty() {
-        return Ok(Vec::from_slice(alloc, name)?);
+        Path::new(alloc, name)
+    } else {
+        Path::below(alloc, folder, name)
     }
-    let mut path = Vec::from_slice(alloc, folder)?;
-    path.push(b'/')?;
-    path.extend_from_slice(name)?;
-    Ok(path)
 }
 
 /// What is answered of a tree with an entry whose path is none.
@@ -50,8 +52,7 @@ pub fn rows_of(
     let mut entries = entries;
     let mut rows = Vec::new(alloc);
     'rows: while let Some(e) = entries.pop() {
-        let bytes = path_below(alloc, folder, e.name.as_slice())?;
-        match Path::new(alloc, &bytes) {
+        match path_below(alloc, folder, e.name.as_slice()) {
             Ok(path) => rows.push((
                 path,
                 Entry {

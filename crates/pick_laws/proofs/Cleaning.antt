@@ -1,5 +1,5 @@
--- A pick begins where no file differs from the index.
-use Rattle.std.proofs.Common.{◌≡◌, ℕ, Bool, true, false, List, [], ◌∷◌, ◌++◌, Option, Some, None, Ok, refl, sym, ap, ◌∙◌}
+-- A pick begins on a HEAD that is at a commit, where no file differs from the index.
+use Rattle.std.proofs.Common.{◌≡◌, Bool, true, false, List, [], ◌∷◌, ◌++◌, Option, Some, None, Result, Ok, Err, refl, sym, ap, subst, ◌∙◌}
 use Rattle.std.specs.Option.{option_to_list}
 use Rattle.stage_index.specs.Changes.{changed, dirty, staged}
 use Rattle.stage_index.specs.Least.{least}
@@ -8,16 +8,20 @@ use Rattle.stage_index.proofs.Leasts.{least_at}
 use Rattle.stage_index.proofs.Orders.{less_back, not_less_itself}
 use Rattle.index_file.specs.declared.entry.IndexEntry.{IndexEntry}
 use Rattle.seq_base.specs.PathMaps.{is_less}
-use Rattle.seq_base.specs.Words.{Name, Path, Text}
+use Rattle.seq_base.specs.Words.{Id, Name, Path, Text}
 use Rattle.seq_base.specs.World.{World}
-use Rattle.seq_model.specs.Branches.{branch_at, head_text, tip_of}
+use Rattle.seq_model.specs.Checks.{born, commit_by, denied_refs, has_refs, is_repository, place_at, place_in}
+use Rattle.ref_store.specs.Values.{head_at, value_at}
+use Rattle.ref_store.specs.declared.fault.RefFault.{RefFault}
+use Rattle.ref_text.specs.Refs.{head_name}
+use Rattle.ref_text.specs.declared.head.Head.{Head}
 use Rattle.seq_model.specs.Committers.{committer_in}
-use Rattle.seq_model.specs.Ids.{id_in}
-use Rattle.seq_model.specs.Pick.{Finding, Merging, clean_map, found, found_on, index_named, is_clean, merged_into, merged_onto, merging_of, only_parent, unmerged}
-use Rattle.seq_model.specs.Refusing.{denied_file, or_refuse, refuse_found}
+use Rattle.seq_model.specs.Pick.{Finding, Merging, clean_map, found, found_at, found_in, found_on, index_named, is_clean, merged_into, merged_onto, merging_of, only_parent, unmerged}
+use Rattle.seq_model.specs.Refusing.{denied_file, refuse_found}
 use Rattle.seq_model.specs.Unbuilt.{only_built}
+use Rattle.seq_model.specs.declared.place.Place.{Place}
 use Rattle.seq_model.specs.declared.refusal.Refusal.{Refusal}
-use Rattle.seq_model.specs.declared.refusal.Refusal.TheVariants.{Dirty, NotBuilt, Unmerged}
+use Rattle.seq_model.specs.declared.refusal.Refusal.TheVariants.{Dirty, Unmerged}
 use Rattle.seq_outside.specs.Halts.{for_reason}
 use Rattle.objects.specs.Named.{commit_named}
 use Rattle.path_trees.specs.Named.{commit_map}
@@ -42,29 +46,51 @@ pub clean_is : (w : World) (index : List IndexEntry) (ours : Entries) (x : Unit 
 unfolding is_clean
 clean_is w index ours x e = none_changed (changed w index) (staged index ours) (not_found (dirty w index ours) Dirty x e)
 
-pub merging_clean : (w : World) (head : List ℕ) (pick : List ℕ) (m : Merging) → merging_of w head pick ≡ Ok m → changed w m.index ≡ None
+pub merging_clean : (w : World) (head : Id) (index : List IndexEntry) (pick : Id) (m : Merging) → merging_of w head index pick ≡ Ok m → changed w m.index ≡ None
 unfolding merging_of merged_into clean_map
-merging_clean w head pick m e =
-    let one = bound (index_named w) _ m e in
-    let two = bound (for_reason denied_file (commit_named w pick)) _ m one.2 in
+merging_clean w head index pick m e =
+    let two = bound (for_reason denied_file (commit_named w pick)) _ m e in
     let three = bound (only_parent two.0.parents) _ m two.2 in
-    let four = bound (refuse_found (unmerged one.0) Unmerged) _ m three.2 in
-    let five = bound (clean_map w head one.0) _ m four.2 in
+    let four = bound (refuse_found (unmerged index) Unmerged) _ m three.2 in
+    let five = bound (clean_map w head index) _ m four.2 in
     let six = bound (merged_onto w five.0 three.0 two.0.tree) _ m five.2 in
-    let same = ok_is (record { index = one.0; commit = two.0; ours = five.0; map = six.0 }) m six.2 in
+    let same = ok_is (record { index = index; commit = two.0; ours = five.0; map = six.0 }) m six.2 in
     let a = bound (for_reason denied_file (commit_map w head)) _ five.0 five.1 in
-    let b = bound (is_clean w one.0 a.0) _ five.0 a.2 in
-    ap (λ (x : Merging). changed w x.index) (sym same) ∙ clean_is w one.0 a.0 b.0 b.1
+    let b = bound (is_clean w index a.0) _ five.0 a.2 in
+    ap (λ (x : Merging). changed w x.index) (sym same) ∙ clean_is w index a.0 b.0 b.1
 
-pub found_clean : (vars : List (Name × Text)) (word : Text) (w : World) (finding : Finding) → found vars word w ≡ Ok finding → changed w finding.merging.index ≡ None
-unfolding found found_on
-found_clean vars word w finding e =
-    let one = bound (head_text w) _ finding e in
-    let two = bound (or_refuse (id_in word) NotBuilt) _ finding one.2 in
-    let three = bound (only_built w) _ finding two.2 in
-    let four = bound (branch_at one.0) _ finding three.2 in
-    let five = bound (tip_of w four.0) _ finding four.2 in
-    let six = bound (committer_in vars) _ finding five.2 in
-    let seven = bound (merging_of w five.0 two.0) _ finding six.2 in
-    let same = ok_is (record { branch = four.0; head = five.0; committer = six.0; merging = seven.0 }) finding seven.2 in
-    ap (λ (x : Finding). changed w x.merging.index) (sym same) ∙ merging_clean w five.0 two.0 seven.0 seven.1
+-- ---- what a pick found
+
+-- HEAD was read, and no file differs from the index
+pub record HasFound (w : World) (finding : Finding) : Type 0 where
+  pub on : head_at w ≡ Ok finding.on
+  pub clean : changed w finding.merging.index ≡ None
+
+read_is : (r : Result Head RefFault) (head : Head) → for_reason denied_refs r ≡ Ok head → r ≡ Ok head
+read_is (Ok x) head e = let same = ok_is x head e in ap Ok same
+read_is (Err why) head e = absurd cc
+
+placed : (w : World) (place : Place) → place_in w ≡ Ok place → head_at w ≡ Ok place.head
+unfolding place_in place_at
+placed w place e =
+    let one = bound (place_at w) _ place e in
+    let two = bound (has_refs w) _ place one.2 in
+    let three = bound (for_reason denied_refs (head_at w)) _ one.0 one.1 in
+    let four = bound (for_reason denied_refs (value_at w head_name)) _ one.0 three.2 in
+    let same = ok_is one.0 place two.2 in
+    let here = ok_is (record { head = three.0; tip = four.0 }) one.0 four.2 in
+    read_is (head_at w) three.0 three.1 ∙ ap (λ (p : Place). Ok p.head) here ∙ ap (λ (p : Place). Ok p.head) same
+
+pub has_found : (vars : List (Name × Text)) (word : Text) (w : World) (finding : Finding) → found vars word w ≡ Ok finding → HasFound w finding
+unfolding found found_in found_at found_on
+has_found vars word w finding e =
+    let one = bound (is_repository w) _ finding e in
+    let two = bound (only_built w) _ finding one.2 in
+    let three = bound (place_in w) _ finding two.2 in
+    let four = bound (index_named w) _ finding three.2 in
+    let five = bound (commit_by w word) _ finding four.2 in
+    let six = bound (born three.0.tip) _ finding five.2 in
+    let seven = bound (committer_in vars) _ finding six.2 in
+    let eight = bound (merging_of w six.0 four.0 five.0) _ finding seven.2 in
+    let same = ok_is (record { on = three.0.head; head = six.0; committer = seven.0; merging = eight.0 }) finding eight.2 in
+    subst (HasFound w) same (record { on = placed w three.0 three.1; clean = merging_clean w six.0 four.0 five.0 eight.0 eight.1 })

@@ -1,4 +1,4 @@
--- The commit that a pick made is read back, and the branch is at it.
+-- The commit that a pick made is read back, and HEAD is at it.
 use Rattle.std.proofs.Common.{◌≡◌, ℕ, ◌≤◌, ◌*◌, Bool, true, false, List, [], ◌∷◌, ◌++◌, length, Some, Ok, inr, refl, sym, ap, subst, ◌∙◌, arith}
 use Rattle.std.specs.Prelude.{MatchBool, nat_lt}
 use Rattle.std.specs.FinMap as map
@@ -17,7 +17,8 @@ use Rattle.object_text.proofs.KeptLaws.{commit_texts, kept_object}
 use Rattle.object_text.proofs.ObjectLaws.{object_written}
 use Rattle.objects.specs.Named.{commit_in, commit_named, commit_spelled, object_named}
 use Rattle.objects.specs.Puts.{object_put}
-use Rattle.ref_store.specs.Moves.{branch_moved}
+use Rattle.ref_store.specs.Moves.{head_moved}
+use Rattle.ref_text.specs.declared.head.Head.{Head}
 use Rattle.ref_text.specs.declared.head.Head.TheVariants.{Detached}
 use Rattle.ref_text.specs.Heads.{SpellsHead, head_text}
 use Rattle.ref_text.specs.Refs.{Decides, RefAt, RefWithin, SpellsFile, SpellsLoose, head_name, ref_path}
@@ -32,23 +33,23 @@ use Rattle.seq_model.specs.declared.denial.Denial.{Denial}
 use Rattle.seq_outside.specs.Turns.{◌>>=◌, gives, saying}
 use Rattle.pick_laws.proofs.Turning.{both_are, bound, said}
 
--- the commit was put, and then the branch was moved to it
-pub record WithCommit (branch : Name) (head : Id) (c : CommitFields) (who : Text) (u : World) (id : Id) (v : World) : Type 0 where
+-- the commit was put, and then HEAD was moved to it
+pub record WithCommit (on : Head) (head : Id) (c : CommitFields) (who : Text) (u : World) (id : Id) (v : World) : Type 0 where
   pub between : World
   pub put : object_put (commit_object c) u ≡ (Ok id, between)
-  pub move : branch_moved branch id (pick_line head id who c.message) between ≡ (Ok tt, v)
+  pub move : head_moved on id (pick_line head id who c.message) between ≡ (Ok tt, v)
 
-pub with_commit_is : (branch : Name) (head : Id) (c : CommitFields) (who : Text) (u : World) (id : Id) (v : World) → with_commit branch head c who u ≡ (Ok id, v) → WithCommit branch head c who u id v
+pub with_commit_is : (on : Head) (head : Id) (c : CommitFields) (who : Text) (u : World) (id : Id) (v : World) → with_commit on head c who u ≡ (Ok id, v) → WithCommit on head c who u id v
 unfolding with_commit
-with_commit_is branch head c who u id v e =
-    let one = bound (saying denied_git (object_put (commit_object c))) (λ x. saying denied_git (branch_moved branch x (pick_line head x who c.message)) >>= λ _. gives x) u id v e in
-    let two = bound (saying denied_git (branch_moved branch one.given (pick_line head one.given who c.message))) (λ _. gives one.given) one.between id v one.then in
+with_commit_is on head c who u id v e =
+    let one = bound (saying denied_git (object_put (commit_object c))) (λ x. saying denied_git (head_moved on x (pick_line head x who c.message)) >>= λ _. gives x) u id v e in
+    let two = bound (saying denied_git (head_moved on one.given (pick_line head one.given who c.message))) (λ _. gives one.given) one.between id v one.then in
     let put = said denied_git (object_put (commit_object c)) u one.given one.between one.first in
-    let move = said denied_git (branch_moved branch one.given (pick_line head one.given who c.message)) one.between two.given two.between two.first in
+    let move = said denied_git (head_moved on one.given (pick_line head one.given who c.message)) one.between two.given two.between two.first in
     let same = both_are {E = Denial} one.given id two.between v two.then in
-    subst (λ (t : Id × World). WithCommit branch head c who u t.0 t.1) same (record { between = one.between; put = put; move = move })
+    subst (λ (t : Id × World). WithCommit on head c who u t.0 t.1) same (record { between = one.between; put = put; move = move })
 
--- ---- the value of the branch
+-- ---- the value of a name
 
 either : (b : Bool) (P Q : Type 0) → P → Q → MatchBool b P Q
 either true P Q p q = p

@@ -10,4 +10,5 @@ pub mod Files
 pub mod BlobIds
 pub mod Unstaged
 pub mod Standing
+pub mod Heading
 pub mod Picking

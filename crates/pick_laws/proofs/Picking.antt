@@ -11,6 +11,8 @@ use Rattle.seq_base.specs.Ids.{HasIdWidth, IsId}
 use Rattle.object_text.specs.Objects.{object_text}
 use Rattle.object_text.specs.Store.{object_id}
 use Rattle.objects.specs.Named.{commit_named}
+use Rattle.ref_store.specs.Moves.{moved_name}
+use Rattle.ref_store.proofs.Moving.{moved_is_name}
 use Rattle.ref_text.specs.Refs.{head_name}
 use Rattle.seq_base.specs.Repository.{object_path}
 use Rattle.seq_base.specs.Words.{Id, Text}
@@ -28,8 +30,9 @@ use Rattle.pick_laws.proofs.Putting.{moved, stored}
 use Rattle.pick_laws.proofs.Placing.{object_no_log, object_no_ref}
 use Rattle.pick_laws.proofs.Committing.{WithCommit, has_value, reads_back, with_commit_is}
 use Rattle.pick_laws.proofs.Switching.{few_made, made_is}
-use Rattle.pick_laws.proofs.Staying.{index_has, tree_has}
-use Rattle.pick_laws.proofs.Cleaning.{found_clean}
+use Rattle.pick_laws.proofs.Staying.{head_stays, index_has, tree_has}
+use Rattle.pick_laws.proofs.Cleaning.{has_found}
+use Rattle.pick_laws.proofs.Heading.{head_has}
 use Rattle.pick_laws.proofs.Standing.{nothing_unstaged}
 
 -- who commits at a moment
@@ -45,7 +48,7 @@ pub record HasPicked (finding : Finding) (zone : Text) (secs : ℤ) (w : World) 
   pub tree : Id
   pub between : World
   pub switched : switched_to finding.merging.index finding.merging.ours finding.merging.map finding.merging.commit.message w ≡ (Ok tree, between)
-  pub with : WithCommit finding.branch finding.head (commit_of finding tree (ident_at finding zone secs)) (ident_text (ident_at finding zone secs)) between id v
+  pub with : WithCommit finding.on finding.head (commit_of finding tree (ident_at finding zone secs)) (ident_text (ident_at finding zone secs)) between id v
 
 pub picked_is : (env : Env) (secs : ℤ) (word : Text) (w : World) (finding : Finding) (id : Id) (v : World) → found env.vars word w ≡ Ok finding → picked env secs word w ≡ (Ok id, v) → HasPicked finding env.zone secs w id v
 unfolding picked prepared prepared_from merge_made finished committed
@@ -55,15 +58,15 @@ picked_is env secs word w finding id v is e =
     let read = looked_at (found env.vars word w) w two.given two.between two.first in
     let here : two.given ≡ finding = ok_is two.given finding (sym read.0 ∙ is) in
     let made : prepared_from finding w ≡ (Ok one.given, one.between) = ap (λ (f : Finding). prepared_from f w) (sym here) ∙ ap (prepared_from two.given) read.1 ∙ two.then in
-    let three = bound (merge_made finding.merging) (λ tree. gives (record { branch = finding.branch; head = finding.head; committer = finding.committer; commit = finding.merging.commit; tree = tree })) w one.given one.between made in
-    let same = both_are {E = Denial} (record { branch = finding.branch; head = finding.head; committer = finding.committer; commit = finding.merging.commit; tree = three.given }) one.given three.between one.between three.then in
-    let end : finished (record { branch = finding.branch; head = finding.head; committer = finding.committer; commit = finding.merging.commit; tree = three.given }) env.zone secs three.between ≡ (Ok id, v) =
+    let three = bound (merge_made finding.merging) (λ tree. gives (record { on = finding.on; head = finding.head; committer = finding.committer; commit = finding.merging.commit; tree = tree })) w one.given one.between made in
+    let same = both_are {E = Denial} (record { on = finding.on; head = finding.head; committer = finding.committer; commit = finding.merging.commit; tree = three.given }) one.given three.between one.between three.then in
+    let end : finished (record { on = finding.on; head = finding.head; committer = finding.committer; commit = finding.merging.commit; tree = three.given }) env.zone secs three.between ≡ (Ok id, v) =
     ap (λ (t : Prepared × World). finished t.0 env.zone secs t.1) same ∙ one.then in
     record {
       tree = three.given;
       between = three.between;
       switched = three.first;
-      with = with_commit_is finding.branch finding.head (commit_of finding three.given (ident_at finding env.zone secs)) (ident_text (ident_at finding env.zone secs)) three.between id v end;
+      with = with_commit_is finding.on finding.head (commit_of finding three.given (ident_at finding env.zone secs)) (ident_text (ident_at finding env.zone secs)) three.between id v end;
     }
 
 widths_of : (es : Entries) → AllByRecursion (λ e. IsId e.1.id) es → AllByRecursion (λ e. HasIdWidth e.1.id) es
@@ -90,18 +93,22 @@ leaves env word pick id is_made =
     let who : IsIdent ident (ident_text ident) = record { value = record { name = sound.name; email = sound.email; zone = is_made.zone }; fits = is_made.moment; text_is = refl } in
     let value : IsCommitValue c = record { author = sound.commit.author; committer = (ident, who); encoding = sound.commit.encoding } in
     let s = stored (commit_object c) p.between id p.with.between p.with.put in
-    let m = moved finding.branch id _ p.with.between v sound.branch p.with.move in
+    let name = moved_is_name finding.on sound.on in
+    let m = moved finding.on id _ p.with.between v name p.with.move in
+    let there = has_found env.vars word w finding is_made.finds in
     let tree : IsId p.tree = subst IsId (sym made.trees.root) is_made.tree_id in
-    let file : held.get v (object_path id) ≡ Some (object_text (commit_object c)) = m.elsewhere (object_path id) (object_no_ref id finding.branch sound.branch) (object_no_log id finding.branch) (object_no_log id head_name) ∙ s.file in
+    let file : held.get v (object_path id) ≡ Some (object_text (commit_object c)) = m.elsewhere (object_path id) (object_no_ref id (moved_name finding.on) name) (object_no_log id (moved_name finding.on)) (object_no_log id head_name) ∙ s.file in
     let own : held.get v (object_path (object_id (commit_object c))) ≡ Some (object_text (commit_object c)) = subst (λ (i : Id). held.get v (object_path i) ≡ Some (object_text (commit_object c))) s.id_is file in
+    let value_is = has_value v (moved_name finding.on) id is_made.commit_id m.file in
     record {
-      value = has_value v finding.branch id is_made.commit_id m.file;
+      head = head_has finding.on w p.with.between v id _ _ sound.on is_made.commit_id there.on (head_stays finding.on finding.head c (ident_text ident) merging.index merging.map merging.commit.message w p.tree id p.between v name sound.paths made p.with) p.with.move value_is m.file;
+      value = value_is;
       commit = c;
       reads = subst (λ (i : Id). commit_named v i ≡ Ok c) (sym s.id_is) (reads_back v c finding.head value tree sound.head refl s.within own);
       parent = refl;
       author = refl;
       message = refl;
-      tree = tree_has finding.branch finding.head c (ident_text ident) merging.index merging.map merging.commit.message w p.tree id p.between v sound.branch sound.paths made p.with sound.map (widths_of merging.map sound.ids);
-      index = index_has finding.branch finding.head c (ident_text ident) merging.index merging.map merging.commit.message w p.tree id p.between v sound.branch sound.paths made p.with sound.map few (widths_of merging.map sound.ids) (bytes_of merging.map sound.ids);
-      unstaged = nothing_unstaged finding.branch finding.head c (ident_text ident) merging.index merging.map merging.commit.message w p.tree id p.between v sound.branch sound.paths made p.with sound.map sound.order (found_clean env.vars word w finding is_made.finds);
+      tree = tree_has finding.on finding.head c (ident_text ident) merging.index merging.map merging.commit.message w p.tree id p.between v name sound.paths made p.with sound.map (widths_of merging.map sound.ids);
+      index = index_has finding.on finding.head c (ident_text ident) merging.index merging.map merging.commit.message w p.tree id p.between v name sound.paths made p.with sound.map few (widths_of merging.map sound.ids) (bytes_of merging.map sound.ids);
+      unstaged = nothing_unstaged finding.on finding.head c (ident_text ident) merging.index merging.map merging.commit.message w p.tree id p.between v name sound.paths made p.with sound.map sound.order there.clean;
     }

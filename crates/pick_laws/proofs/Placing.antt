@@ -47,3 +47,15 @@ not_in_git rest is =
 
 pub path_no_git : (path : Path) (rest : List ℕ) → IsPath path → path ≢ codes ".git/" ++ rest
 path_no_git path rest is e = not_in_git rest (subst IsPath e is)
+
+abbrev pub head_path : Path
+head_path = codes ".git/HEAD"
+
+pub head_no_object : (id : Id) → head_path ≢ object_path id
+head_no_object id = differs head_path (object_path id) (λ k. absurd (omega arith))
+
+pub head_no_message : head_path ≢ message_path
+head_no_message = differs head_path message_path (λ k. absurd (omega arith))
+
+pub head_no_index : head_path ≢ index_path
+head_no_index = differs head_path index_path (λ k. absurd (omega arith))

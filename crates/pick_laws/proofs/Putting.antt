@@ -1,4 +1,4 @@
--- An object that was put, and a branch that was moved.
+-- An object that was put, and HEAD that was moved.
 use Rattle.std.proofs.Common.{◌≡◌, ◌≢◌, ℕ, ◌≤◌, [], ◌++◌, Bool, true, false, cond, get_or, length, List, Option, Some, None, Result, Ok, Err, refl, sym, ap, subst, ◌∙◌, arith}
 use Rattle.std.specs.Prelude.{codes, nat_lt, unwrap_or}
 use Rattle.std.specs.FinMap as map
@@ -9,8 +9,9 @@ use Rattle.object_text.specs.declared.object.Object.{Object}
 use Rattle.object_text.specs.Objects.{object_text}
 use Rattle.object_text.specs.Store.{content_limit, object_id}
 use Rattle.objects.specs.Puts.{object_over, object_put}
-use Rattle.ref_store.specs.Moves.{branch_moved, head_logged, line_added, lines_added, ref_set}
-use Rattle.ref_text.specs.declared.head.Head.TheVariants.{Detached}
+use Rattle.ref_store.specs.Moves.{branch_moved, detached_moved, head_logged, head_moved, line_added, lines_added, moved_name, ref_set}
+use Rattle.ref_text.specs.declared.head.Head.{Head}
+use Rattle.ref_text.specs.declared.head.Head.TheVariants.{Branch, Detached}
 use Rattle.ref_text.specs.declared.log.LogLine.{LogLine}
 use Rattle.ref_text.specs.Heads.{head_text}
 use Rattle.ref_text.specs.Logs.{log_text}
@@ -84,9 +85,9 @@ module _ (o : Object) (u : World) (id : Id) (v : World) where
   unfolding object_put
   stored e = put_sized (nat_lt content_limit (length o.bytes)) refl e
 
--- ---- a branch
+-- ---- HEAD
 
--- the branch's file has the value; its log and HEAD's alone differ besides
+-- the name's file has the value; its log and HEAD's alone differ besides
 pub record IsMoved (branch : Name) (id : Id) (u v : World) : Type 0 where
   pub file : map.get v (ref_path branch) ≡ Some (head_text (Detached id))
   pub elsewhere : (path : Path) → path ≢ ref_path branch → path ≢ log_path branch → path ≢ log_path head_name → map.get v path ≡ map.get u path
@@ -105,9 +106,9 @@ first_of P head below name is = each_name (λ n. P (get_or n 0 0)) name head (λ
 pub ref_no_log : (name other : Name) → IsRefName name → ref_path name ≢ log_path other
 ref_no_log name other is e = first_of (λ b. b ≡ 108 → ⊥) (λ k. absurd (omega arith)) (λ k. absurd (omega arith)) name is (ap (λ (l : List ℕ). get_or l 5 0) e)
 
-pub moved : (branch : Name) (id : Id) (line : LogLine) (u v : World) → IsRefName branch → branch_moved branch id line u ≡ (Ok tt, v) → IsMoved branch id u v
+branch_is_moved : (branch : Name) (id : Id) (line : LogLine) (u v : World) → IsRefName branch → branch_moved branch id line u ≡ (Ok tt, v) → IsMoved branch id u v
 unfolding branch_moved lines_added head_logged ref_set
-moved branch id line u v name e =
+branch_is_moved branch id line u v name e =
     let one = bound (ref_set branch id) (λ _. lines_added branch line) u tt v e in
     let two = bound (line_added branch line) (λ _. head_logged line) one.between tt v one.then in
     let set = was_put (ref_path branch) (head_text (Detached id)) u one.between one.first in
@@ -116,3 +117,18 @@ moved branch id line u v name e =
           ∙ ap (λ (w : World). map.get w (ref_path branch)) set ∙ put_here u (ref_path branch) (head_text (Detached id));
       elsewhere = λ q ref log head. line_elsewhere head_name line two.between v two.then q head ∙ line_elsewhere branch line one.between two.between two.first q log ∙ ap (λ (w : World). map.get w q) set ∙ put_there u (ref_path branch) (head_text (Detached id)) q ref;
     }
+
+detached_is_moved : (id : Id) (line : LogLine) (u v : World) → detached_moved id line u ≡ (Ok tt, v) → IsMoved head_name id u v
+unfolding detached_moved head_logged ref_set
+detached_is_moved id line u v e =
+    let one = bound (ref_set head_name id) (λ _. head_logged line) u tt v e in
+    let set = was_put (ref_path head_name) (head_text (Detached id)) u one.between one.first in
+    record {
+      file = line_elsewhere head_name line one.between v one.then (ref_path head_name) (ref_no_log head_name head_name refl) ∙ ap (λ (w : World). map.get w (ref_path head_name)) set ∙ put_here u (ref_path head_name) (head_text (Detached id));
+      elsewhere = λ q ref log head. line_elsewhere head_name line one.between v one.then q head ∙ ap (λ (w : World). map.get w q) set ∙ put_there u (ref_path head_name) (head_text (Detached id)) q ref;
+    }
+
+pub moved : (on : Head) (id : Id) (line : LogLine) (u v : World) → IsRefName (moved_name on) → head_moved on id line u ≡ (Ok tt, v) → IsMoved (moved_name on) id u v
+unfolding head_moved
+moved (Branch branch) id line u v name e = branch_is_moved branch id line u v name e
+moved (Detached old) id line u v name e = detached_is_moved id line u v e

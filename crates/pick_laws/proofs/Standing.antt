@@ -11,8 +11,10 @@ use Rattle.object_text.specs.declared.commit.Commit.{Commit as CommitFields}
 use Rattle.seq_base.specs.PathMaps.{IsPathMap, entry_at}
 use Rattle.seq_base.specs.Paths.{IsPath}
 use Rattle.seq_base.specs.RefNames.{IsRefName}
+use Rattle.ref_store.specs.Moves.{moved_name}
+use Rattle.ref_text.specs.declared.head.Head.{Head}
 use Rattle.seq_base.specs.Repository.{object_path}
-use Rattle.seq_base.specs.Words.{Id, Name, Path, Text}
+use Rattle.seq_base.specs.Words.{Id, Path, Text}
 use Rattle.seq_base.specs.World.{World}
 use Rattle.seq_base.specs.declared.map.Entry.{Entry}
 use Rattle.stage_index.specs.Changes.{blob_id, changed, has_blob, is_changed, is_gitlink}
@@ -43,8 +45,8 @@ row_has w trees mid files v index e clean end begin is file = at (is_rewritten i
         let kept : is_kept index e ≡ true = not_false (is_kept index e) (first_fails (not (is_kept index e)) (not (is_gitlink e.1.mode)) off (ap not file)) in
         ap (λ (o : Option Text). has_blob o e.1.id) same ∙ kept_blob w index e clean kept file
 
-module _ (branch : Name) (head : Id) (c : CommitFields) (who : Text) (index : List IndexEntry) (m : Entries) (message : Text) (w : World) (tree id : Id) (u v : World)
-    (name : IsRefName branch) (paths : ArePaths index m) (made : HasMade index m message w tree u) (with : WithCommit branch head c who u id v) where
+module _ (on : Head) (head : Id) (c : CommitFields) (who : Text) (index : List IndexEntry) (m : Entries) (message : Text) (w : World) (tree id : Id) (u v : World)
+    (name : IsRefName (moved_name on)) (paths : ArePaths index m) (made : HasMade index m message w tree u) (with : WithCommit on head c who u id v) where
   half : Halfway (removals index m) (index_write m ∷ made.switched.blobs) made.with_trees made.with_files
   half = halfway (removals index m) (index_write m ∷ made.switched.blobs) made.with_trees made.with_files made.switched.made
 
@@ -62,7 +64,7 @@ module _ (branch : Name) (head : Id) (c : CommitFields) (who : Text) (index : Li
   rows_unchanged clean [] are there files = tt
   rows_unchanged clean (e ∷ rows) are there files = (
     unchanged v (record { path = e.0; stage = 0; mode = e.1.mode; id = e.1.id })
-        (row_has w made.with_trees step.between made.with_files v index e clean (path_there branch head c who index m message w tree id u v name paths made with e.0 are.0) (before e.0 are.0 there.0) files.0),
+        (row_has w made.with_trees step.between made.with_files v index e clean (path_there on head c who index m message w tree id u v name paths made with e.0 are.0) (before e.0 are.0 there.0) files.0),
     rows_unchanged clean rows are.1 there.1 files.1,
   )
 

@@ -18,8 +18,10 @@ use Rattle.seq_base.specs.Ids.{HasIdWidth}
 use Rattle.seq_base.specs.PathMaps.{IsPathMap}
 use Rattle.seq_base.specs.Paths.{IsPath}
 use Rattle.seq_base.specs.RefNames.{IsRefName}
+use Rattle.ref_store.specs.Moves.{moved_name}
+use Rattle.ref_text.specs.declared.head.Head.{Head}
 use Rattle.seq_base.specs.Repository.{object_path}
-use Rattle.seq_base.specs.Words.{Id, Name, Path, Text}
+use Rattle.seq_base.specs.Words.{Id, Path, Text}
 use Rattle.seq_base.specs.World.{World}
 use Rattle.seq_base.specs.declared.map.Entry.{Entry}
 use Rattle.seq_base.specs.declared.mode.Mode.TheVariants.{Folder}
@@ -33,7 +35,7 @@ use Rattle.worktree.specs.Writes.{blob_writes}
 use Rattle.pick_laws.specs.Leaving.{ArePaths}
 use Rattle.pick_laws.proofs.Turning.{put_there}
 use Rattle.pick_laws.proofs.Putting.{IsMoved, IsStored, moved, stored}
-use Rattle.pick_laws.proofs.Placing.{index_no_log, index_no_message, index_no_object, index_no_ref, index_path, message_no_object, object_no_log, object_no_ref, path_no_git}
+use Rattle.pick_laws.proofs.Placing.{head_no_index, head_no_message, head_no_object, head_path, index_no_log, index_no_message, index_no_object, index_no_ref, index_path, message_no_object, object_no_log, object_no_ref, path_no_git}
 use Rattle.pick_laws.proofs.Committing.{WithCommit}
 use Rattle.pick_laws.proofs.Blobs.{no_blobs, one_blob}
 use Rattle.pick_laws.proofs.Switching.{AreAway, HasMade, writes_away, writes_here}
@@ -66,15 +68,15 @@ kept_paths test (e ∷ m) paths = at (test e) (kept_paths test m paths.1)
     at true others = (paths.0, others)
     at false others = others
 
--- ---- worlds of a pick, from its trees to its branch
+-- ---- worlds of a pick, from its trees to its HEAD
 
-module _ (branch : Name) (head : Id) (c : CommitFields) (who : Text) (index : List IndexEntry) (m : Entries) (message : Text) (w : World) (tree id : Id) (u v : World)
-    (name : IsRefName branch) (paths : ArePaths index m) (made : HasMade index m message w tree u) (with : WithCommit branch head c who u id v) where
+module _ (on : Head) (head : Id) (c : CommitFields) (who : Text) (index : List IndexEntry) (m : Entries) (message : Text) (w : World) (tree id : Id) (u v : World)
+    (name : IsRefName (moved_name on)) (paths : ArePaths index m) (made : HasMade index m message w tree u) (with : WithCommit on head c who u id v) where
   pub committed : IsStored (commit_object c) u id with.between
   committed = stored (commit_object c) u id with.between with.put
 
-  pub at_branch : IsMoved branch id with.between v
-  at_branch = moved branch id (pick_line head id who c.message) with.between v name with.move
+  pub at_head : IsMoved (moved_name on) id with.between v
+  at_head = moved on id (pick_line head id who c.message) with.between v name with.move
 
   blobs_at : (rest : Path) → AreAway (codes ".git/" ++ rest) made.switched.blobs
   blobs_at rest = blobs_away rest made.with_trees (filter (is_rewritten index) m) made.switched.blobs (kept_paths (is_rewritten index) m paths.merged) made.switched.are_blobs
@@ -88,7 +90,14 @@ module _ (branch : Name) (head : Id) (c : CommitFields) (who : Text) (index : Li
   pub objects_stay : ObjectsStay made.with_trees v
   objects_stay i text there =
       let message : held.get u (object_path i) ≡ Some text = ap (λ (x : World). held.get x (object_path i)) made.message_is ∙ put_there made.with_files message_path message (object_path i) (λ is. message_no_object i (sym is)) ∙ object_switched i ∙ there in
-      at_branch.elsewhere (object_path i) (object_no_ref i branch name) (object_no_log i branch) (object_no_log i head_name) ∙ committed.stays (object_path i) text message
+      at_head.elsewhere (object_path i) (object_no_ref i (moved_name on) name) (object_no_log i (moved_name on)) (object_no_log i head_name) ∙ committed.stays (object_path i) text message
+
+  pub head_stays : held.get with.between head_path ≡ held.get w head_path
+  head_stays =
+      let away : AreAway head_path (removals index m ++ index_write m ∷ made.switched.blobs) = both_away head_path (removals index m) (index_write m ∷ made.switched.blobs) (removals_away (codes "HEAD") index m index paths.tracked) (λ is. head_no_index is, blobs_at (codes "HEAD")) in
+      committed.elsewhere head_path (head_no_object id) ∙ ap (λ (x : World). held.get x head_path) made.message_is ∙ put_there made.with_files message_path message head_path head_no_message
+      ∙ writes_away (removals index m ++ index_write m ∷ made.switched.blobs) made.with_trees made.with_files head_path made.switched.made away
+      ∙ made.trees.stored.elsewhere head_path (λ i. head_no_object i)
 
   pub tree_has : IsPathMap m → AllByRecursion (λ e. HasIdWidth e.1.id) m → map_at v tree ≡ Ok m
   tree_has is widths =
@@ -97,7 +106,7 @@ module _ (branch : Name) (head : Id) (c : CommitFields) (who : Text) (index : Li
 
   index_file : held.get v index_path ≡ Some (index_text (indexed m))
   index_file =
-      at_branch.elsewhere index_path (index_no_ref branch name) (index_no_log branch) (index_no_log head_name) ∙ committed.elsewhere index_path (index_no_object id)
+      at_head.elsewhere index_path (index_no_ref (moved_name on) name) (index_no_log (moved_name on)) (index_no_log head_name) ∙ committed.elsewhere index_path (index_no_object id)
       ∙ ap (λ (x : World). held.get x index_path) made.message_is ∙ put_there made.with_files message_path message index_path index_no_message
       ∙ writes_here (removals index m) made.switched.blobs index_path (index_text (indexed m)) made.with_trees made.with_files made.switched.made (blobs_at (codes "index"))
 
@@ -114,5 +123,5 @@ module _ (branch : Name) (head : Id) (c : CommitFields) (who : Text) (index : Li
   -- a path of the worktree is as the switch left it
   pub path_there : (q : Path) → IsPath q → held.get v q ≡ held.get made.with_files q
   path_there q is =
-      at_branch.elsewhere q (path_no_git q branch is) (path_no_git q (drop 5 (log_path branch)) is) (path_no_git q (drop 5 (log_path head_name)) is) ∙ committed.elsewhere q (path_no_git q (drop 5 (object_path id)) is)
+      at_head.elsewhere q (path_no_git q (moved_name on) is) (path_no_git q (drop 5 (log_path (moved_name on))) is) (path_no_git q (drop 5 (log_path head_name)) is) ∙ committed.elsewhere q (path_no_git q (drop 5 (object_path id)) is)
       ∙ ap (λ (x : World). held.get x q) made.message_is ∙ put_there made.with_files message_path message q (path_no_git q (codes "COMMIT_EDITMSG") is)

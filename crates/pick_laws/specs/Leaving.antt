@@ -10,11 +10,13 @@ use Rattle.object_text.specs.Commits.{IsCommitValue}
 use Rattle.object_text.specs.TreeMaps.{map_at, root_of}
 use Rattle.object_text.specs.declared.commit.Commit.{Commit as CommitFields}
 use Rattle.objects.specs.Named.{commit_named}
-use Rattle.ref_text.specs.Refs.{RefAt}
+use Rattle.ref_store.specs.Moves.{moved_name}
+use Rattle.ref_text.specs.Heads.{IsHeadValue}
+use Rattle.ref_store.specs.Values.{HasValue}
+use Rattle.ref_text.specs.Refs.{RefAt, head_name}
 use Rattle.seq_base.specs.Ids.{IsId}
 use Rattle.seq_base.specs.PathMaps.{IsPathMap}
 use Rattle.seq_base.specs.Paths.{IsPath}
-use Rattle.seq_base.specs.RefNames.{IsRefName}
 use Rattle.seq_base.specs.Words.{Id, Text}
 use Rattle.seq_base.specs.World.{World}
 use Rattle.seq_model.specs.Pick.{Finding, found}
@@ -37,7 +39,7 @@ pub record ArePaths (index : List IndexEntry) (m : Entries) : Type 0 where
 
 -- what is found is by its types
 pub record IsSound (finding : Finding) : Type 0 where
-  pub branch : IsRefName finding.branch
+  pub on : IsHeadValue finding.on
   pub head : IsId finding.head
   pub name : list_all is_ident_byte finding.committer.name ≡ true
   pub email : list_all is_ident_byte finding.committer.email ≡ true
@@ -57,10 +59,11 @@ pub record IsMade (env : Env) (word : Text) (pick : Pick) (id : Id) : Type 0 whe
   pub finds : found env.vars word pick.old ≡ Ok pick.finding
   pub picks : picked env pick.secs word pick.old ≡ (Ok id, pick.new)
 
--- The branch is at the new commit, which is one on HEAD, by the author and with the message of the one that was picked. Its tree has the
--- map of the merge, and so has the index; and no file differs from that.
+-- HEAD is at the new commit, and so is its branch, if it is on one. The commit is one on what HEAD was at, by the author and with the
+-- message of the one that was picked. Its tree has the map of the merge, and so has the index; and no file differs from that.
 pub record Leaves (w : World) (finding : Finding) (id : Id) : Type 0 where
-  pub value : RefAt w finding.branch (Some id)
+  pub head : HasValue w head_name (Some id)
+  pub value : RefAt w (moved_name finding.on) (Some id)
   pub commit : CommitFields
   pub reads : commit_named w id ≡ Ok commit
   pub parent : commit.parents ≡ finding.head ∷ []

@@ -4,4 +4,5 @@ pub mod Deleting
 pub mod Updating
 pub mod ValueLaws
 pub mod Keeping
+pub mod Listing
 pub mod Named

@@ -1,9 +1,10 @@
-//! Moving HEAD's branch.
+//! Moving HEAD, on its branch or detached.
 
 ghost use Rattle.std.specs.FinMap as map;
 ghost use Rattle.std.specs.Prelude.{◌≡◌, List, false, ℕ};
 ghost use Rattle.ref_store.specs.Steps.{Does, StaysBut, StaysWhere};
-ghost use Rattle.ref_store.specs.Moves.{IsElsewhere, branch_moved, head_logged, line_added, lines_added, ref_set};
+ghost use Rattle.ref_store.specs.Moves.{IsElsewhere, branch_moved, detached_moved, head_logged, head_moved, line_added, lines_added, moved_name, ref_set};
+ghost use Rattle.ref_text.specs.Heads.{IsHeadValue};
 ghost use Rattle.ref_text.specs.Logs.{IsLogValue};
 ghost use Rattle.ref_text.specs.Refs.{head_name, log_path, ref_path};
 ghost use Rattle.seq_base.specs.RefNames.{IsRefName};
@@ -110,4 +111,46 @@ pub fn move_branch<S: Store>(
 {
     set_ref(alloc, store, branch, id)?;
     add_lines(alloc, store, branch, line)
+}
+
+/// Moves a detached HEAD to a commit, with a line in its log.
+#[tactic(auto, unfolding(crate::specs::Moves::detached_moved))]
+fn move_detached<S: Store>(
+    alloc: Global,
+    store: &mut S,
+    id: Id,
+    line: &LogLine,
+) -> Result<(), Halt<Lack>>
+    requires { IsLogValue line.now }
+    ensures turns { S.told → Does result (detached_moved id line.now) (S.seen store.old) (S.seen store.new) }
+    ensures elsewhere { S.told → StaysWhere (IsElsewhere head_name) (S.seen store.old) (S.seen store.new) }
+    ensures writes { Writes S.told halt_cause result (S.seen store.old) (S.seen store.new) }
+{
+    set_ref(alloc, store, b"HEAD", id)?;
+    log_head(alloc, store, line)
+}
+
+/// Moves HEAD, as it was found, to a commit: its branch, with a line in the branch's log and in HEAD's, or HEAD itself where it is
+/// detached, with a line in its log (git-update-ref(1), `--no-deref` of the branch). Where a file or a folder is in the way of one of
+/// them it is `Way`, and those before it have been put.
+#[tactic(auto, unfolding(crate::specs::Moves::head_moved))]
+pub fn move_head<S: Store>(
+    alloc: Global,
+    store: &mut S,
+    head: &Head,
+    id: Id,
+    line: &LogLine,
+) -> Result<(), Halt<Lack>>
+    requires head { IsHeadValue head.now }
+    requires line { IsLogValue line.now }
+    ensures turns { S.told → Does result (head_moved head.now id line.now) (S.seen store.old) (S.seen store.new) }
+
+    // It follows from `turns`, where it ends well or by a blocked put.
+    ensures elsewhere { S.told → StaysWhere (IsElsewhere (moved_name head.now)) (S.seen store.old) (S.seen store.new) }
+    ensures writes { Writes S.told halt_cause result (S.seen store.old) (S.seen store.new) }
+{
+    match head {
+        Head::Branch(branch) => move_branch(alloc, store, branch.as_slice(), id, line),
+        Head::Detached(_) => move_detached(alloc, store, id, line),
+    }
 }

@@ -4,7 +4,8 @@ ghost use Rattle.std.specs.FinMap as map;
 ghost use Rattle.std.specs.Prelude.{◌≡◌, ◌≢◌, Err, List, None, Ok, Option, Some, false, true, ℕ};
 ghost use Rattle.std.specs.Str.{bytes_eq};
 ghost use Rattle.ref_store.specs.Changes.{UpdateIs, deleted, is_barred, is_there};
-ghost use Rattle.ref_store.specs.Moves.{LeavesIfOk, branch_moved};
+ghost use Rattle.ref_store.specs.Moves.{LeavesIfOk, head_moved, moved_name};
+ghost use Rattle.ref_text.specs.Heads.{IsHeadValue};
 ghost use Rattle.ref_store.specs.Paths.{KeepsOthers};
 ghost use Rattle.ref_store.specs.Values.{HasValue, head_at, packed_at, value_at};
 ghost use Rattle.ref_store.specs.declared.fault.RefFault.{RefFault};
@@ -15,16 +16,16 @@ ghost use Rattle.seq_base.specs.Ids.{IsId};
 ghost use Rattle.seq_base.specs.RefNames.{IsRefName};
 ghost use Rattle.seq_base.specs.World.{World, is_blocked};
 
-use ref_text::LogLine;
+use ref_text::{Head, LogLine};
 use seq_base::{Bytes, Id};
 
 /// Where the steps do not stop, they leave what git-update-ref(1) leaves, and they do not stop where nothing is in the way of a
-/// branch, its log and that of HEAD.
-pub fn branch_is_moved(branch: &[u8], id: Id, line: &LogLine)
+/// branch, its log and that of HEAD, or of a detached HEAD and its log.
+pub fn head_is_moved(head: &Head, id: Id, line: &LogLine)
     ghost w: { World }
-    ensures leaves { LeavesIfOk (branch_moved branch.now id line.now w) (move_head w (Branch branch.now) id line.now) }
-    ensures goes { IsRefName branch.now → IsWritable w branch.now → is_blocked w (log_path head_name) ≡ false
-        → branch_moved branch.now id line.now w ≡ (Ok tt, move_head w (Branch branch.now) id line.now) }
+    ensures leaves { LeavesIfOk (head_moved head.now id line.now w) (move_head w head.now id line.now) }
+    ensures goes { IsHeadValue head.now → IsWritable w (moved_name head.now) → is_blocked w (log_path head_name) ≡ false
+        → head_moved head.now id line.now w ≡ (Ok tt, move_head w head.now id line.now) }
 {}
 
 /// The value of a name is what its files and the packed refs say, at most one; a missing HEAD is bad, whatever is packed.

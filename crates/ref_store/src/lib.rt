@@ -5,18 +5,20 @@ mod branch;
 mod change;
 mod fault;
 mod file;
+mod folder;
 mod laws;
 mod place;
 mod read;
 mod removal;
 
-pub use branch::move_branch;
+pub use branch::{move_branch, move_head};
 pub use change::{set_head, update};
 pub use fault::RefFault;
+pub use folder::list;
 pub use laws::{
-    branch_is_moved, delete_keeps_other_values, set_ref_keeps_other_values, update_is_exact,
+    delete_keeps_other_values, head_is_moved, set_ref_keeps_other_values, update_is_exact,
     value_is_told,
 };
 pub use place::ref_file;
-pub use read::{head, log, resolve};
+pub use read::{head, log, packed_refs, resolve};
 pub use removal::delete;

@@ -64,7 +64,7 @@ fn packed_in(alloc: Global, text: &[u8]) -> Result<Vec<(Bytes, Id)>, Halt<RefFau
     }
 }
 
-/// The packed refs.
+/// The packed refs, in the order of their lines, of which a missing file has none (git-pack-refs(1)). BadPacked with its first bad line.
 #[tactic(auto, unfolding(crate::specs::Values::packed_at))]
 pub fn packed_refs<S: Store>(
     alloc: Global,

@@ -4,7 +4,7 @@ ghost use Rattle.std.specs.FinMap as map;
 ghost use Rattle.std.specs.Prelude.{◌≡◌, false, IfOk, List, not, ℕ};
 ghost use Rattle.std.specs.Str.{bytes_eq};
 ghost use Rattle.ref_store.specs.Steps.{Does, StaysBut, StaysWhere};
-ghost use Rattle.ref_store.specs.Changes.{IsNotDeleted, deleted, deleted_from, loose_removed, removed_from, repacked, unpacked_from};
+ghost use Rattle.ref_store.specs.Changes.{IsNotDeleted, KeepsIfStopped, NeverStops, deleted, deleted_from, loose_removed, removed_from, repacked, unpacked_from};
 ghost use Rattle.ref_text.specs.Packed.{ArePackedNames, packed_text as packed_text_of};
 ghost use Rattle.ref_text.specs.Refs.{is_packed as is_packed_in, packed_path, ref_path, without};
 ghost use Rattle.seq_base.specs.RefNames.{IsRefName};
@@ -63,6 +63,7 @@ fn repack<S: Store>(
     requires { ArePackedNames refs.items }
     ensures turns { S.told → Does result (repacked name.now refs.items) (S.seen store.old) (S.seen store.new) }
     ensures elsewhere { S.told → StaysBut packed_path (S.seen store.old) (S.seen store.new) }
+    ensures unchanged { S.told → KeepsIfStopped result (S.seen store.old).content (S.seen store.new).content }
     ensures writes { Writes S.told halt_cause result (S.seen store.old) (S.seen store.new) }
 {
     let text = text_without(alloc, refs, name)?;
@@ -76,6 +77,7 @@ fn remove_loose<S: Store>(alloc: Global, store: &mut S, name: &[u8]) -> Result<b
     requires { IsRefName name.now }
     ensures turns { S.told → Does result (loose_removed name.now) (S.seen store.old) (S.seen store.new) }
     ensures elsewhere { S.told → StaysBut (ref_path name.now) (S.seen store.old) (S.seen store.new) }
+    ensures never { S.told → NeverStops result }
     ensures writes { Writes S.told halt_cause result (S.seen store.old) (S.seen store.new) }
 {
     let path = ref_file(alloc, name)?;
@@ -94,6 +96,7 @@ fn unpack<S: Store>(
     requires { ArePackedNames refs.items }
     ensures turns { S.told → Does result (unpacked_from name.now refs.items) (S.seen store.old) (S.seen store.new) }
     ensures elsewhere { S.told → StaysBut packed_path (S.seen store.old) (S.seen store.new) }
+    ensures unchanged { S.told → KeepsIfStopped result (S.seen store.old).content (S.seen store.new).content }
     ensures writes { Writes S.told halt_cause result (S.seen store.old) (S.seen store.new) }
 {
     if !is_packed(&refs, name) {
@@ -113,6 +116,7 @@ fn remove_from<S: Store>(
     requires refs { ArePackedNames refs.items }
     ensures turns { S.told → Does result (removed_from name.now refs.items) (S.seen store.old) (S.seen store.new) }
     ensures elsewhere { S.told → StaysWhere (IsNotDeleted name.now) (S.seen store.old) (S.seen store.new) }
+    ensures unchanged { S.told → KeepsIfStopped result (S.seen store.old).content (S.seen store.new).content }
     ensures writes { Writes S.told halt_cause result (S.seen store.old) (S.seen store.new) }
 {
     unpack(alloc, store, name, refs)?;
@@ -130,6 +134,7 @@ fn delete_from<S: Store>(
     requires refs { ArePackedNames refs.items }
     ensures turns { S.told → Does result (deleted_from name.now refs.items) (S.seen store.old) (S.seen store.new) }
     ensures elsewhere { S.told → StaysWhere (IsNotDeleted name.now) (S.seen store.old) (S.seen store.new) }
+    ensures unchanged { S.told → KeepsIfStopped result (S.seen store.old).content (S.seen store.new).content }
     ensures writes { Writes S.told halt_cause result (S.seen store.old) (S.seen store.new) }
 {
     let packed = is_packed(&refs, name);
@@ -139,12 +144,14 @@ fn delete_from<S: Store>(
 
 /// Deletes a ref, among the packed refs and loose, and answers whether it was there; its log stays. The packed refs are written anew
 /// without the name where they have it, and before the loose file is removed, so that an old packed value never decides
-/// (git-update-ref(1), `-d`; git-pack-refs(1)). BadPacked where they are none; then nothing is changed.
+/// (git-update-ref(1), `-d`; git-pack-refs(1)). BadPacked where they are none, Blocked where a folder is in the way of the packed refs;
+/// then nothing is changed.
 #[tactic(auto, unfolding(crate::specs::Changes::deleted))]
 pub fn delete<S: Store>(alloc: Global, store: &mut S, name: &[u8]) -> Result<bool, Halt<RefFault>>
     requires { IsRefName name.now }
     ensures turns { S.told → Does result (deleted name.now) (S.seen store.old) (S.seen store.new) }
     ensures elsewhere { S.told → StaysWhere (IsNotDeleted name.now) (S.seen store.old) (S.seen store.new) }
+    ensures unchanged { S.told → KeepsIfStopped result (S.seen store.old).content (S.seen store.new).content }
     ensures writes { Writes S.told halt_cause result (S.seen store.old) (S.seen store.new) }
 {
     let refs = packed_refs(alloc, store)?;

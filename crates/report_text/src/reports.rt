@@ -63,7 +63,8 @@ fn push_lines(text: &mut Vec<u8>, kind: &StopKind, paths: &[Path]) -> Result<(),
 }
 
 fn push_stopped(text: &mut Vec<u8>, kind: &StopKind, paths: &[Path]) -> Result<(), AllocError>
-    ensures { OnOk result (text.new.items ≡ text.old.items ++ (stop_kind_name_of kind.now ++ stop_kind_fields kind.now ++ 10 ∷ lines_after kind.now paths.now)) }
+    ensures { OnOk result (text.new.items ≡ text.old.items
+        ++ (stop_kind_name_of kind.now ++ stop_kind_fields kind.now ++ 10 ∷ lines_after kind.now paths.now)) }
 {
     push_stop(text, kind)?;
     text.push(b'\n')?;

@@ -11,6 +11,7 @@ pub mod PlainParts
 pub mod Lookups
 pub mod Halving
 pub mod Places
+pub mod PathsBelow
 pub mod Objects
 pub mod RefPaths
 pub mod CharFronts

@@ -1,6 +1,6 @@
 //! Paths below the root of a worktree.
 
-ghost use Rattle.std.specs.Prelude.{◌≡◌, ◌==◌, IfOk, IfErr, MatchResult, codes, map, not};
+ghost use Rattle.std.specs.Prelude.{◌≡◌, ◌==◌, ◌++◌, ◌∷◌, IfOk, IfErr, MatchResult, codes, map, not, true};
 ghost use Rattle.std.proofs.Common.{rules};
 ghost use Rattle.std.specs.Char.{to_ascii_lowercase};
 ghost use Rattle.std.specs.Cmp.{partial_order_from_own_ties};
@@ -13,6 +13,7 @@ ghost use Rattle.seq_base.specs.PathMaps.{is_less};
 ghost use Rattle.seq_base.specs.Paths.{is_special, is_part, parts, first_bad, IsPath, IsPathFault, IsPathFaultOrMemory};
 ghost use Rattle.seq_base.specs.StorePaths.{IsStorePath};
 
+use crate::store_path::is_text;
 use std::alloc::{AllocError, Global};
 use std::cmp::Ordering;
 use std::marker::Model;
@@ -90,6 +91,30 @@ fn bad_part(bytes: &[u8]) -> Option<usize>
     }
 }
 
+/// Whether a folder's path, a slash and a name are a path: only the name is looked at.
+fn is_path_below(folder: &[u8], name: &[u8]) -> bool
+    requires { IsPath folder.now }
+    ensures { result ≡ true → IsPath (folder.now ++ 47 ∷ name.now) }
+{
+    if folder.len() + name.len() >= 4095 || !is_text(name) {
+        return false;
+    }
+    match bad_part(name) {
+        None => true,
+        Some(_) => false,
+    }
+}
+
+fn joined(alloc: Global, folder: &[u8], name: &[u8]) -> Result<Vec<u8>, AllocError>
+    ensures { IfOk result (λ path. path.items ≡ folder.now ++ 47 ∷ name.now) }
+{
+    let mut path = Vec::with_capacity(alloc, folder.len() + 1 + name.len())?;
+    path.extend_from_slice(folder)?;
+    path.push(b'/')?;
+    path.extend_from_slice(name)?;
+    Ok(path)
+}
+
 /// A path below the root of a worktree: text of 1 to 4,095 bytes, whose parts between `/` are not empty and lead neither
 /// into `.git` nor outside. Contracts see its bytes. Paths compare as their bytes do.
 #[derive(Clone, Debug, Drop)]
@@ -142,6 +167,22 @@ impl Path {
             Ok(held) => Ok(Path { held }),
             Err(_) => Err(PathFault::Memory),
         }
+    }
+
+    /// The path of what a folder holds under a name, or the first fault of the two with a slash between. Where there is none, the
+    /// folder's bytes are copied, and not looked at again.
+    pub fn below(alloc: Global, folder: &[u8], name: &[u8]) -> Result<Path, PathFault>
+        requires { IsPath folder.now }
+        ensures ok { IfOk result (λ path. (path ≡ folder.now ++ 47 ∷ name.now) × IsPath (folder.now ++ 47 ∷ name.now)) }
+        ensures fault { IfErr result (IsPathFaultOrMemory (folder.now ++ 47 ∷ name.now)) }
+    {
+        let Ok(held) = joined(alloc, folder, name) else {
+            return Err(PathFault::Memory);
+        };
+        if is_path_below(folder, name) {
+            return Ok(Path { held });
+        }
+        Path::new(alloc, held.as_slice())
     }
 
     /// What `clone` makes.

@@ -87,13 +87,15 @@ IsOfPick Memory = Unit {0}
 -- ---- moments
 
 -- It was judged at a moment that the clock told.
-pub record IsAtMoment {C : Type 0} (told : Type 0) (ticked : C → ℤ → C → Type 0) (means : ℤ → Result Id Denial × World) (old : World) (clock : C) (new : World) (clock' : C) (outcome : Outcome) : Type 0 where
+pub record IsAtMoment {C : Type 0} (told : Type 0) (ticked : C → ℤ → C → Type 0) (means : ℤ → Result Id Denial × World)
+    (old : World) (clock : C) (new : World) (clock' : C) (outcome : Outcome) : Type 0 where
   pub secs : ℤ
   pub ticks : ticked clock secs clock'
   pub fits : told → Fits old new (means secs) outcome
 
 -- It was judged at no moment: whatever the moment, it is so, and nothing is changed.
-pub record IsAtNone {C : Type 0} (told : Type 0) (means : ℤ → Result Id Denial × World) (old : World) (clock : C) (new : World) (clock' : C) (outcome : Outcome) : Type 0 where
+pub record IsAtNone {C : Type 0} (told : Type 0) (means : ℤ → Result Id Denial × World)
+    (old : World) (clock : C) (new : World) (clock' : C) (outcome : Outcome) : Type 0 where
   pub ticks_not : clock' ≡ clock
   pub unmade : IsUnmade outcome
   pub fits : told → (secs : ℤ) → FitsWorld outcome (ended (means secs).0)
@@ -101,10 +103,12 @@ pub record IsAtNone {C : Type 0} (told : Type 0) (means : ℤ → Result Id Deni
 
 -- at the one or the other
 abbrev pub IsJudged : {C : Type 0} → Type 0 → (C → ℤ → C → Type 0) → (ℤ → Result Id Denial × World) → World → C → World → C → Outcome → Type 0
-IsJudged told ticked means old clock new clock' outcome = IsAtMoment told ticked means old clock new clock' outcome ⊎ IsAtNone told means old clock new clock' outcome
+IsJudged told ticked means old clock new clock' outcome =
+    IsAtMoment told ticked means old clock new clock' outcome ⊎ IsAtNone told means old clock new clock' outcome
 
 -- What a command asks for: a moment before the store is asked, and one for the commit that it makes.
-pub record Does {C : Type 0} (told : Type 0) (ticked : C → ℤ → C → Type 0) (env : Env) (command : Command) (old : World) (clock : C) (new : World) (clock' : C) (outcome : Outcome) : Type 0 where
+pub record Does {C : Type 0} (told : Type 0) (ticked : C → ℤ → C → Type 0) (env : Env) (command : Command)
+    (old : World) (clock : C) (new : World) (clock' : C) (outcome : Outcome) : Type 0 where
   pub first : ℤ
   pub between : C
   pub ticks : ticked clock first between
@@ -128,7 +132,8 @@ pub record IsUsage {C : Type 0} (fault : UsageFault) (old : Seen) (clock : C) (n
 
 -- by the words
 abbrev pub Judges : {C : Type 0} → Type 0 → (C → ℤ → C → Type 0) → Result Command UsageFault → Env → Seen → C → Seen → C → Outcome → Type 0
-Judges told ticked (Ok command) env old clock new clock' outcome = Does told ticked env command old.content clock new.content clock' outcome ⊎ IsUnread old clock new clock' outcome
+Judges told ticked (Ok command) env old clock new clock' outcome =
+    Does told ticked env command old.content clock new.content clock' outcome ⊎ IsUnread old clock new clock' outcome
 Judges told ticked (Err fault) env old clock new clock' outcome = IsUsage fault old clock new clock' outcome
 
 -- ---- printing
@@ -146,11 +151,11 @@ FitsJudged (Limit what number) judged = judged ≡ Limit what number
 FitsJudged Memory judged = Unit {0}
 
 -- a prefix of the piece was added
-abbrev pub AddsPrefix : List ℕ → List ℕ → List ℕ → Type 0
+abbrev pub AddsPrefix : Text → Text → Text → Type 0
 AddsPrefix old piece new = (n : ℕ) × (new ≡ old ++ take n piece)
 
 -- The report of what was judged was added to what was printed; where it could not be printed or memory ran out, a prefix of it.
-abbrev pub Prints : Outcome → Outcome → List ℕ → List ℕ → Type 0
+abbrev pub Prints : Outcome → Outcome → Text → Text → Type 0
 Prints (Done head) judged old new = new ≡ old ++ report_of judged
 Prints (Stopped kind paths) judged old new = new ≡ old ++ report_of judged
 Prints (Usage fault) judged old new = new ≡ old ++ report_of judged
@@ -165,16 +170,17 @@ Prints Memory judged old new = AddsPrefix old (report_of judged) new
 
 -- StoreFault comes only where a count of the store rose, that of faults where it tells what it holds; and where that of faults rose it is
 -- StoreFault, OutputFault or Memory. OutputFault comes only where the sink's count rose. No child is run.
-abbrev pub HasCause : Type 0 → Outcome → Seen → Seen → ℕ → ℕ → Type 0
-HasCause told (Done head) old new sink sink' = new.faults ≡ old.faults
-HasCause told (Stopped kind paths) old new sink sink' = new.faults ≡ old.faults
-HasCause told (Usage fault) old new sink sink' = new.faults ≡ old.faults
-HasCause told (Refused refusal) old new sink sink' = new.faults ≡ old.faults
-HasCause told StoreFault old new sink sink' = (Rose old.faults new.faults ⊎ Rose old.blocked new.blocked) × (told → Rose old.faults new.faults)
-HasCause told ChildFault old new sink sink' = ⊥
-HasCause told OutputFault old new sink sink' = Rose sink sink'
-HasCause told (Limit what number) old new sink sink' = new.faults ≡ old.faults
-HasCause told Memory old new sink sink' = Unit {0}
+abbrev pub HasOutcomeCause : Type 0 → Outcome → Seen → Seen → ℕ → ℕ → Type 0
+HasOutcomeCause told (Done head) old new sink sink' = new.faults ≡ old.faults
+HasOutcomeCause told (Stopped kind paths) old new sink sink' = new.faults ≡ old.faults
+HasOutcomeCause told (Usage fault) old new sink sink' = new.faults ≡ old.faults
+HasOutcomeCause told (Refused refusal) old new sink sink' = new.faults ≡ old.faults
+HasOutcomeCause told StoreFault old new sink sink' =
+    (Rose old.faults new.faults ⊎ Rose old.blocked new.blocked) × (told → Rose old.faults new.faults)
+HasOutcomeCause told ChildFault old new sink sink' = ⊥
+HasOutcomeCause told OutputFault old new sink sink' = Rose sink sink'
+HasOutcomeCause told (Limit what number) old new sink sink' = new.faults ≡ old.faults
+HasOutcomeCause told Memory old new sink sink' = Unit {0}
 
 -- ---- an invocation
 
@@ -190,10 +196,11 @@ outside store clock printed sink_faults = record { store = store; clock = clock;
 
 -- An outcome of an invocation. `told` and `sink_told` hold of a store and of a sink that tell what they hold, and `ticked` is what a clock
 -- tells.
-pub record Answers {C : Type 0} (told sink_told : Type 0) (ticked : C → ℤ → C → Type 0) (words : List Text) (env : Env) (old new : Outside C) (outcome : Outcome) : Type 0 where
+pub record Answers {C : Type 0} (told sink_told : Type 0) (ticked : C → ℤ → C → Type 0) (words : List Text) (env : Env)
+    (old new : Outside C) (outcome : Outcome) : Type 0 where
   pub judged : Outcome
   pub judges : Judges told ticked (command_of words) env old.store old.clock new.store new.clock judged
   pub keeps : told → KeepsRepository old.store.content new.store.content
   pub fits_judged : FitsJudged outcome judged
   pub prints : sink_told → Prints outcome judged old.printed new.printed
-  pub cause : HasCause told outcome old.store new.store old.sink_faults new.sink_faults
+  pub cause : HasOutcomeCause told outcome old.store new.store old.sink_faults new.sink_faults

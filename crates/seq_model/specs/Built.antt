@@ -5,7 +5,7 @@ use Rattle.seq_base.specs.World.{World}
 use Rattle.seq_outside.specs.Halts.{◌>>=◌}
 use Rattle.seq_outside.specs.Turns.{Turn, looks}
 use Rattle.seq_outside.specs.declared.env.Env.{Env}
-use Rattle.seq_model.specs.Branches.{head_text}
+use Rattle.seq_model.specs.Checks.{is_repository}
 use Rattle.seq_model.specs.Picked.{picked}
 use Rattle.seq_model.specs.declared.command.Command.{Command}
 use Rattle.seq_model.specs.declared.command.Command.TheVariants.{Start}
@@ -47,7 +47,7 @@ commit_to_pick command = None
 -- what is known and not built yet is refused, in a repository
 unfoldable pub not_built : World → Result Id Denial
 not_built w = do
-  text ← head_text w
+  repository ← is_repository w
   Err (Refused NotBuilt)
 
 -- the pick of the commit that is asked for, and the refusal where no such pick is asked for

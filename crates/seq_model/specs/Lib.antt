@@ -9,8 +9,7 @@ pub mod Refusals
 pub mod Report
 pub mod Status
 pub mod Refusing
-pub mod Ids
-pub mod Branches
+pub mod Checks
 pub mod Unbuilt
 pub mod Committers
 pub mod Making

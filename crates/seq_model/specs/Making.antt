@@ -1,5 +1,5 @@
--- What a clean pick makes: trees, index and files, a commit, and the branch's new tip (git-cherry-pick(1); gitrepository-layout(5)).
-use Rattle.std.specs.Prelude.{ℕ, Bool, nat_lt, is_none, List, [], ◌∷◌, ◌++◌, replicate, codes, length, if◌then◌else◌, Option, Some, None, Result, Ok, Err}
+-- What a clean pick makes: trees, index and files, a commit, and HEAD's new place (git-cherry-pick(1); gitrepository-layout(5)).
+use Rattle.std.specs.Prelude.{ℕ, nat_lt, is_none, List, [], ◌∷◌, ◌++◌, replicate, codes, length, if◌then◌else◌, Option, Some, None, Result, Ok, Err}
 use Rattle.std.specs.Str.{bytes_eq}
 use Rattle.ident_text.specs.declared.ident.Ident.{Ident}
 use Rattle.ident_text.specs.Idents.{ident_text}
@@ -12,9 +12,10 @@ use Rattle.object_text.specs.declared.object.Kind.TheVariants.{Commit}
 use Rattle.object_text.specs.declared.object.Object.{Object}
 use Rattle.objects.specs.Puts.{object_put}
 use Rattle.path_trees.specs.Puts.{trees_put}
-use Rattle.ref_store.specs.Moves.{branch_moved}
+use Rattle.ref_store.specs.Moves.{head_moved}
+use Rattle.ref_text.specs.declared.head.Head.{Head}
 use Rattle.ref_text.specs.declared.log.LogLine.{LogLine}
-use Rattle.seq_base.specs.Words.{Id, Name, Path, Text}
+use Rattle.seq_base.specs.Words.{Id, Path, Text}
 use Rattle.seq_outside.specs.Turns.{Turn, ◌>>=◌, gives, looked, looks, put_in, saying}
 use Rattle.stage_index.specs.Changes.{staged}
 use Rattle.stage_index.specs.Stages.{Entries}
@@ -74,13 +75,13 @@ value_of id = if bytes_eq id (replicate 20 0) then None else Some id
 abbrev pub pick_line : Id → Id → Text → Text → LogLine
 pick_line head id ident message = record { old = value_of head; new = id; ident = ident; message = codes "cherry-pick: " ++ subject message }
 
--- a commit, to which the branch is moved, with a line in its log and in HEAD's; answers its id
-unfoldable pub with_commit : Name → Id → CommitFields → Text → Turn Denial Id
-with_commit branch head commit ident = do
+-- a commit, to which HEAD is moved from another, with the pick's line in its logs; answers its id
+unfoldable pub with_commit : Head → Id → CommitFields → Text → Turn Denial Id
+with_commit on head commit ident = do
   id ← saying denied_git (object_put (commit_object commit))
-  moved ← saying denied_git (branch_moved branch id (pick_line head id ident commit.message))
+  moved ← saying denied_git (head_moved on id (pick_line head id ident commit.message))
   gives id
 
 -- the commit that a pick makes
-unfoldable pub committed : Name → Id → Id → CommitFields → Ident → Turn Denial Id
-committed branch head tree commit ident = with_commit branch head (commit_on tree head commit (ident_text ident)) (ident_text ident)
+unfoldable pub committed : Head → Id → Id → CommitFields → Ident → Turn Denial Id
+committed on head tree commit ident = with_commit on head (commit_on tree head commit (ident_text ident)) (ident_text ident)

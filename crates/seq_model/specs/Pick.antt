@@ -1,5 +1,5 @@
 -- One clean pick (git-cherry-pick(1)), by what the store holds.
-use Rattle.std.specs.Prelude.{ℕ, ℤ, not, nat_lt, List, [], ◌∷◌, length, if◌then◌else◌, Option, Result, Ok, Err}
+use Rattle.std.specs.Prelude.{not, nat_lt, List, [], ◌∷◌, length, if◌then◌else◌, Option, Result, Ok, Err}
 use Rattle.std.specs.List.{find}
 use Rattle.std.specs.Option.{option_map}
 use Rattle.index_file.specs.Index.{index_at}
@@ -15,13 +15,14 @@ use Rattle.stage_index.specs.Changes.{dirty}
 use Rattle.stage_index.specs.Stages.{is_merged}
 use Rattle.tree_merge.specs.Plans.{Entries, plan_of}
 use Rattle.tree_merge.specs.Results.{conflict_in, result_of}
-use Rattle.seq_model.specs.Branches.{branch_at, head_text, tip_of}
+use Rattle.ref_text.specs.declared.head.Head.{Head}
+use Rattle.seq_model.specs.Checks.{born, commit_by, is_repository, place_in}
 use Rattle.seq_model.specs.Committers.{committer_in}
-use Rattle.seq_model.specs.Ids.{id_in}
-use Rattle.seq_model.specs.Refusing.{denied_file, or_refuse, refuse_found}
+use Rattle.seq_model.specs.Refusing.{denied_file, refuse_found}
 use Rattle.seq_model.specs.Making.{index_limit}
 use Rattle.seq_model.specs.Unbuilt.{only_built}
 use Rattle.seq_model.specs.declared.committer.Committer.{Committer}
+use Rattle.seq_model.specs.declared.place.Place.{Place}
 use Rattle.seq_model.specs.declared.denial.Denial.{Denial}
 use Rattle.seq_model.specs.declared.denial.Denial.TheVariants.{Refused, Limit}
 use Rattle.seq_model.specs.declared.refusal.Refusal.TheVariants.{NotBuilt, BadIndex, Unmerged, Dirty, Conflict}
@@ -89,32 +90,42 @@ merged_into w head index commit = do
   Ok (record { index = index; commit = commit; ours = ours; map = map })
 
 -- the commit of an id merged into HEAD
-unfoldable pub merging_of : World → Id → Id → Result Merging Denial
-merging_of w head pick = do
-  index ← index_named w
+unfoldable pub merging_of : World → Id → List IndexEntry → Id → Result Merging Denial
+merging_of w head index pick = do
   commit ← for_reason denied_file (commit_named w pick)
   merged_into w head index commit
 
--- what a pick finds: the branch that HEAD is on, the commit that it is at, who commits, and the merge
+-- what a pick finds: what HEAD is, the commit that it is at, who commits, and the merge
 pub record Finding : Type 0 where
-  pub branch : Name
+  pub on : Head
   pub head : Id
   pub committer : Committer
   pub merging : Merging
 
--- what a pick finds on the branch that HEAD's text names
-unfoldable pub found_on : List (Name × Text) → World → Text → Id → Result Finding Denial
-found_on vars w text pick = do
-  branch ← branch_at text
-  head ← tip_of w branch
+-- what the pick of a commit finds on HEAD, which is at a commit
+unfoldable pub found_on : List (Name × Text) → World → Head → Id → List IndexEntry → Id → Result Finding Denial
+found_on vars w on head index pick = do
   committer ← committer_in vars
-  merging ← merging_of w head pick
-  Ok (record { branch = branch; head = head; committer = committer; merging = merging })
+  merging ← merging_of w head index pick
+  Ok (record { on = on; head = head; committer = committer; merging = merging })
+
+-- what the pick of the commit that a word names finds at a place
+unfoldable pub found_at : List (Name × Text) → Text → World → Place → List IndexEntry → Result Finding Denial
+found_at vars word w place index = do
+  pick ← commit_by w word
+  head ← born place.tip
+  found_on vars w place.head head index pick
+
+-- the same, in a repository of which all is taken
+unfoldable pub found_in : List (Name × Text) → Text → World → Result Finding Denial
+found_in vars word w = do
+  place ← place_in w
+  index ← index_named w
+  found_at vars word w place index
 
 -- what the pick of the commit that a word names finds
 unfoldable pub found : List (Name × Text) → Text → World → Result Finding Denial
 found vars word w = do
-  text ← head_text w
-  pick ← or_refuse (id_in word) NotBuilt
+  repository ← is_repository w
   built ← only_built w
-  found_on vars w text pick
+  found_in vars word w

@@ -1,10 +1,11 @@
 -- Why a line is blocked.
 use Rattle.std.specs.Prelude.{ℕ, List, codes, [], ◌++◌}
+use Rattle.seq_base.specs.Words.{Text}
 use Rattle.seq_model.specs.Fields.{bytes_field, id_field, found_field, limit_fields}
 use Rattle.seq_model.specs.declared.reason.Reason.{Reason}
 use Rattle.seq_model.specs.declared.reason.Reason.TheVariants.{WouldOverwrite, BadName, NoBase, SeveralBases, BadObject, BadHead, BadIndex, HeadMoved, Dirty, Limit}
 
-abbrev pub reason_name : Reason → List ℕ
+abbrev pub reason_name : Reason → Text
 reason_name (WouldOverwrite path) = codes "would-overwrite"
 reason_name (BadName word) = codes "bad-name"
 reason_name NoBase = codes "no-base"
@@ -17,7 +18,7 @@ reason_name (Dirty path) = codes "dirty"
 reason_name (Limit what number) = codes "limit"
 
 -- the fields, in their order
-abbrev pub reason_fields : Reason → List ℕ
+abbrev pub reason_fields : Reason → Text
 reason_fields (WouldOverwrite path) = bytes_field path
 reason_fields (BadName word) = bytes_field word
 reason_fields NoBase = []

@@ -1,11 +1,12 @@
 -- Why an invocation is refused.
 use Rattle.std.specs.Prelude.{ℕ, List, codes, [], ◌++◌}
+use Rattle.seq_base.specs.Words.{Text}
 use Rattle.seq_model.specs.Fields.{bytes_field, number_field, id_field, found_field, exit_field, todo_bad_fields}
 use Rattle.seq_model.specs.IndexFaults.{index_fault_fields}
 use Rattle.seq_model.specs.declared.refusal.Refusal.{Refusal}
 use Rattle.seq_model.specs.declared.refusal.Refusal.TheVariants.{NotARepository, InProgress, BadHead, BadRefs, BadConfig, Unsupported, BadIndex, NoSuchRev, AmbiguousRev, NotACommit, NoParent, NoLogEntry, BadRevForm, UnbornHead, NoIdentity, Unmerged, Dirty, Mainline, NoBase, SeveralBases, Octopus, NewRoot, HookRefused, EditorFailed, NothingToDo, HeadMoved, WouldOverwrite, BadObject, NothingInProgress, Interrupted, BadState, TodoBad, Unstaged, Staged, AlreadyARepository, BadPath, NotTracked, EmptyMessage, NotBuilt, Conflict, DriverBroken}
 
-abbrev pub refusal_name : Refusal → List ℕ
+abbrev pub refusal_name : Refusal → Text
 refusal_name NotARepository = codes "not-a-repository"
 refusal_name (InProgress path) = codes "in-progress"
 refusal_name BadHead = codes "bad-head"
@@ -49,7 +50,7 @@ refusal_name (Conflict path) = codes "conflict"
 refusal_name (DriverBroken path exit) = codes "driver-broken"
 
 -- the fields, in their order
-abbrev pub refusal_fields : Refusal → List ℕ
+abbrev pub refusal_fields : Refusal → Text
 refusal_fields NotARepository = []
 refusal_fields (InProgress path) = bytes_field path
 refusal_fields BadHead = []

@@ -1,6 +1,8 @@
 -- What an invocation is denied for, step by step.
-use Rattle.std.specs.Prelude.{ℕ, Bool, Option, Result}
+use Rattle.std.specs.Prelude.{Bool, Option, Result}
 use Rattle.seq_outside.specs.Halts.{or_stop, stop_found, stop_if}
+use Rattle.seq_outside.specs.declared.halt.Halt.{Halt}
+use Rattle.seq_outside.specs.declared.halt.Halt.TheVariants.{Stops, Fault, Memory}
 use Rattle.seq_outside.specs.declared.lack.Lack.{Lack}
 use Rattle.seq_outside.specs.declared.lack.Lack.TheVariants as lacks
 use Rattle.seq_model.specs.declared.denial.Denial.{Denial}
@@ -33,3 +35,9 @@ denied_git (lacks.Object id) = Refused (BadObject id)
 denied_git (lacks.Limit what number) = Limit what number
 denied_git (lacks.Way path) = Refused NotBuilt
 denied_git (lacks.Place id) = Refused NotBuilt
+
+-- why a step gives no value, told otherwise
+abbrev pub told_by : {E F : Type 0} → (E → F) → Halt E → Halt F
+told_by told (Stops why) = Stops (told why)
+told_by told Fault = Fault
+told_by told Memory = Memory

@@ -1,11 +1,12 @@
 -- Why a list stops.
 use Rattle.std.specs.Prelude.{ℕ, List, codes, [], ◌∷◌, ◌++◌}
+use Rattle.seq_base.specs.Words.{Text}
 use Rattle.seq_model.specs.Fields.{bytes_field, id_field, found_field, exit_field, todo_bad_fields}
 use Rattle.seq_model.specs.Reasons.{reason_name, reason_fields}
 use Rattle.seq_model.specs.declared.stop.StopKind.{StopKind}
 use Rattle.seq_model.specs.declared.stop.StopKind.TheVariants.{Conflict, Edit, Break, ExecFailed, ExecDirty, Empty, HookRefused, EditorFailed, EmptyMessage, DriverBroken, Blocked, TodoBad, RefMoved}
 
-abbrev pub stop_kind_name : StopKind → List ℕ
+abbrev pub stop_kind_name : StopKind → Text
 stop_kind_name Conflict = codes "conflict"
 stop_kind_name Edit = codes "edit"
 stop_kind_name Break = codes "break"
@@ -21,7 +22,7 @@ stop_kind_name (TodoBad line kind) = codes "todo-bad"
 stop_kind_name (RefMoved name found) = codes "ref-moved"
 
 -- the fields, in their order
-abbrev pub stop_kind_fields : StopKind → List ℕ
+abbrev pub stop_kind_fields : StopKind → Text
 stop_kind_fields Conflict = []
 stop_kind_fields Edit = []
 stop_kind_fields Break = []

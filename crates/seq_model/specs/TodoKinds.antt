@@ -1,9 +1,10 @@
 -- The names of what is wrong with a line of the todo.
 use Rattle.std.specs.Prelude.{ℕ, List, codes}
+use Rattle.seq_base.specs.Words.{Text}
 use Rattle.todo_text.specs.declared.todo_kind.TodoKind.{TodoKind}
 use Rattle.todo_text.specs.declared.todo_kind.TodoKind.TheVariants.{Command, Missing, Extra, Label, RefName, Octopus, NoEarlier, NoSuchCommit, MergePicked, OwnBranch, NotBuilt}
 
-abbrev pub todo_kind_name : TodoKind → List ℕ
+abbrev pub todo_kind_name : TodoKind → Text
 todo_kind_name Command = codes "command"
 todo_kind_name Missing = codes "missing"
 todo_kind_name Extra = codes "extra"

@@ -9,3 +9,4 @@ pub mod Keys
 pub mod Blocking
 pub mod ListedPaths
 pub mod Folders
+pub mod Seeing

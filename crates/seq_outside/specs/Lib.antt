@@ -12,5 +12,7 @@ pub mod Listing
 pub mod Halts
 pub mod Turns
 pub mod Tape
+pub mod Doing
+pub mod Follows
 pub mod Pools
 pub mod Quiet

@@ -1,5 +1,5 @@
 -- What proofs see of a store, and what a call does to it.
-use Rattle.std.specs.Prelude.{◌≡◌, ◌⊎◌, ℕ, ◌+◌, ◌≤◌, List, Result, Ok, Err}
+use Rattle.std.specs.Prelude.{◌≡◌, ℕ, ◌+◌, ◌≤◌, List, Result, Ok, Err}
 use Rattle.seq_base.specs.World.{World}
 use Rattle.seq_outside.specs.Causes.{Rose}
 use Rattle.seq_outside.specs.declared.store.StoreError.{StoreError}
@@ -17,12 +17,11 @@ pub record Seen : Type 0 where
   pub beneath : World
   pub beneath_blocked : ℕ
 
--- why a call ended: well, with a refusal or for want of memory; by a fault of the store; by a blocked put; by either
+-- why a call ended: well, with a refusal or for want of memory; by a fault of the store; by a blocked put
 pub data Cause : Type 0 where
   ByNone : Cause
   ByFault : Cause
   ByBlock : Cause
-  ByEither : Cause
 
 abbrev pub store_cause : StoreError → Cause
 store_cause store.Failed = ByFault
@@ -45,17 +44,12 @@ Stays told old new =
 abbrev pub Goes : Type 0 → Seen → Seen → Type 0
 Goes told old new = (old.faults ≤ new.faults) × Stays told old new
 
--- the count of faults rose, or that of blocked puts alone
-abbrev pub RoseEither : Seen → Seen → Type 0
-RoseEither old new = Rose old.faults new.faults ⊎ ((new.faults ≡ old.faults) × Rose old.blocked new.blocked)
-
 -- A fault comes only where the count of faults rose, and a blocked put only where that of blocked puts did. No other end
 -- moves the count of faults, and neither count falls.
 abbrev pub HasCause : Type 0 → Cause → Seen → Seen → Type 0
 HasCause told ByNone old new = (new.faults ≡ old.faults) × Stays told old new
 HasCause told ByFault old new = (old.faults ≤ new.faults) × Rose old.faults new.faults × Stays told old new
 HasCause told ByBlock old new = (new.faults ≡ old.faults) × Rose old.blocked new.blocked × Stays told old new
-HasCause told ByEither old new = (old.faults ≤ new.faults) × RoseEither old new × Stays told old new
 
 -- no put was blocked
 abbrev pub NoneBlocked : Seen → Seen → Type 0
@@ -66,7 +60,6 @@ abbrev pub HasReadCause : Type 0 → Cause → Seen → Seen → Type 0
 HasReadCause told ByNone old new = (new.faults ≡ old.faults) × NoneBlocked old new × Stays told old new
 HasReadCause told ByFault old new = (old.faults ≤ new.faults) × Rose old.faults new.faults × NoneBlocked old new × Stays told old new
 HasReadCause told ByBlock old new = ⊥
-HasReadCause told ByEither old new = ⊥
 
 -- the call ended for the cause that its answer names
 abbrev pub Writes : {T E : Type 0} → Type 0 → (E → Cause) → Result T E → Seen → Seen → Type 0

@@ -1,4 +1,3 @@
-pub mod Ids
 pub mod Least
 pub mod Idents
 pub mod Lines

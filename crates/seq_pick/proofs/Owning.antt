@@ -4,10 +4,12 @@ use Rattle.std.specs.FinMap as map
 use Rattle.std.specs.Ordering.{eq_by_cmp}
 use Rattle.std.proofs.lemmas.Bool.{false_from_ne_true}
 use Rattle.objects.specs.Named.{is_object_place}
-use Rattle.ref_store.specs.Moves.{IsElsewhere}
+use Rattle.ref_store.specs.Moves.{IsElsewhere, moved_name}
+use Rattle.ref_store.proofs.Moving.{moved_is_name}
+use Rattle.ref_text.specs.declared.head.Head.{Head}
+use Rattle.ref_text.specs.Heads.{IsHeadValue}
 use Rattle.ref_text.specs.Refs.{head_name, log_path, ref_path}
-use Rattle.seq_base.specs.RefNames.{IsRefName}
-use Rattle.seq_base.specs.Words.{Name, Path}
+use Rattle.seq_base.specs.Words.{Path}
 use Rattle.seq_base.specs.World.{World, path_cmp}
 use Rattle.seq_base.proofs.Shape.{same_path}
 use Rattle.seq_model.specs.Changes.{Changes, MayChange, IsObject, IsRef, IsIndex, IsMessage, IsInWorktree}
@@ -30,11 +32,11 @@ switch_owned old new elsewhere = record { others = λ path not_own. elsewhere pa
     other path not_own (inl index) = not_own (IsIndex index)
     other path not_own (inr is) = not_own (IsInWorktree is)
 
-pub branch_owned : (branch : Name) → IsRefName branch → (old new : World) → ((path : Path) → IsElsewhere branch path → map.get new path ≡ map.get old path) → Changes old new
-branch_owned branch name old new elsewhere = record {
+pub head_owned : (on : Head) → IsHeadValue on → (old new : World) → ((path : Path) → IsElsewhere (moved_name on) path → map.get new path ≡ map.get old path) → Changes old new
+head_owned on is old new elsewhere = record {
   others = λ path not_own. elsewhere path (record {
-    ref = false_from_ne_true (eq_by_cmp path_cmp path (ref_path branch)) (λ here. not_own (IsRef (branch, name, inl (same_path path (ref_path branch) here))));
-    log = false_from_ne_true (eq_by_cmp path_cmp path (log_path branch)) (λ here. not_own (IsRef (branch, name, inr (same_path path (log_path branch) here))));
+    ref = false_from_ne_true (eq_by_cmp path_cmp path (ref_path (moved_name on))) (λ here. not_own (IsRef (moved_name on, moved_is_name on is, inl (same_path path (ref_path (moved_name on)) here))));
+    log = false_from_ne_true (eq_by_cmp path_cmp path (log_path (moved_name on))) (λ here. not_own (IsRef (moved_name on, moved_is_name on is, inr (same_path path (log_path (moved_name on)) here))));
     head = false_from_ne_true (eq_by_cmp path_cmp path (log_path head_name)) (λ here. not_own (IsRef (head_name, refl, inr (same_path path (log_path head_name) here))));
   });
 }

@@ -1,4 +1,3 @@
-pub mod Halts
 pub mod Merging
 pub mod Finding
 pub mod Preparing

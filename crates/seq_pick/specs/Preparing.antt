@@ -4,17 +4,17 @@ use Rattle.std.specs.List.{list_all}
 use Rattle.ident_text.specs.declared.ident.Ident.{Ident}
 use Rattle.ident_text.specs.Idents.{IsIdent, is_ident_byte}
 use Rattle.object_text.specs.Commits.{IsCommitValue}
-use Rattle.seq_base.specs.RefNames.{IsRefName}
+use Rattle.ref_text.specs.Heads.{IsHeadValue}
 use Rattle.seq_base.specs.Words.{Text}
 use Rattle.seq_model.specs.Picked.{Prepared as Definition}
 use Rattle.seq_pick.specs.declared.committing.Prepared.{Prepared}
 
 abbrev pub prepared_is : Prepared → Definition
-prepared_is p = record { branch = p.branch; head = p.head; committer = p.committer; commit = p.commit; tree = p.tree }
+prepared_is p = record { on = p.on; head = p.head; committer = p.committer; commit = p.commit; tree = p.tree }
 
 -- the commit can be made
 pub record IsReady (p : Prepared) : Type 0 where
-  pub branch : IsRefName p.branch
+  pub on : IsHeadValue p.on
   pub name : list_all is_ident_byte p.committer.name ≡ true
   pub email : list_all is_ident_byte p.committer.email ≡ true
   pub commit : IsCommitValue p.commit

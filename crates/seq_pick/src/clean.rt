@@ -9,10 +9,9 @@ ghost use Rattle.seq_outside.specs.Halts.{Gives, halt_cause};
 ghost use Rattle.stage_index.specs.Least.{least};
 
 use crate::commits::commit_map;
-use crate::halt::refused;
 use index_file::IndexEntry;
 use seq_base::{Bytes, Id, Path, PathMap, comes_before};
-use seq_model::{Denial, Refusal};
+use seq_model::{Denial, Refusal, refused};
 use seq_outside::{Halt, Store};
 use stage_index::staged_path;
 use std::alloc::{AllocError, Global};

@@ -9,12 +9,12 @@ ghost use Rattle.seq_model.specs.Refusing.{denied_file};
 ghost use Rattle.seq_outside.specs.Halts.{Gives, for_reason, halt_cause};
 ghost use Rattle.seq_outside.specs.Seen.{Reads};
 
-use crate::halt::{file_halt, refused};
+use crate::halt::file_halt;
 use object_text::Commit;
 use objects::read_commit;
 use path_trees::{read_commit_map, read_tree_map};
 use seq_base::{Id, PathMap};
-use seq_model::{Denial, Refusal};
+use seq_model::{Denial, Refusal, refused};
 use seq_outside::{Halt, Store};
 use std::alloc::Global;
 

@@ -5,9 +5,9 @@ ghost use Rattle.std.specs.Prelude.{◌≡◌, IfOk, true};
 ghost use Rattle.ident_text.specs.Idents.{IsIdent, is_ident_byte};
 ghost use Rattle.object_text.specs.Commits.{IsCommitValue};
 ghost use Rattle.objects.specs.Puts.{object_put};
-ghost use Rattle.ref_store.specs.Moves.{branch_moved};
+ghost use Rattle.ref_store.specs.Moves.{head_moved};
+ghost use Rattle.ref_text.specs.Heads.{IsHeadValue};
 ghost use Rattle.ref_text.specs.Logs.{IsLogValue};
-ghost use Rattle.seq_base.specs.RefNames.{IsRefName};
 ghost use Rattle.seq_model.specs.Changes.{Changes};
 ghost use Rattle.seq_model.specs.Making.{commit_object, commit_on, committed, pick_line, value_of as value_of_id, with_commit};
 ghost use Rattle.seq_model.specs.Picked.{finished};
@@ -23,8 +23,8 @@ use ident_text::{Ident, ident_text};
 use message_text::subject;
 use object_text::{Commit, Ids, Kind, commit_text};
 use objects::write_object;
-use ref_store::move_branch;
-use ref_text::LogLine;
+use ref_store::move_head;
+use ref_text::{Head, LogLine};
 use seq_base::{Bytes, Id};
 use seq_model::{Committer, Denial};
 use seq_outside::{Halt, Store};
@@ -33,8 +33,8 @@ use std::alloc::{AllocError, Global};
 /// A pick whose commit is still to be made.
 #[derive(Drop)]
 pub struct Prepared {
-    /// The branch that HEAD is on.
-    pub branch: Bytes,
+    /// What HEAD is.
+    pub on: Head,
     /// The commit that it is at.
     pub head: Id,
     /// Who commits.
@@ -146,72 +146,71 @@ fn put_commit<S: Store>(alloc: Global, commit: &Commit, store: &mut S) -> Result
     }
 }
 
-/// Moves the branch to a commit, with this line in its log and in HEAD's.
-#[tactic(auto, using(crate::proofs::Owning::branch_owned))]
-fn put_branch<S: Store>(
+/// Moves HEAD to a commit, with this line in its logs.
+fn put_head<S: Store>(
     alloc: Global,
-    branch: &[u8],
+    on: &Head,
     id: Id,
     line: &LogLine,
     store: &mut S,
 ) -> Result<(), Halt<Denial>>
-    requires branch { IsRefName branch.now }
+    requires on { IsHeadValue on.now }
     requires line { IsLogValue line.now }
     ensures turns { S.told → Turns (λ x. x) result
-        (saying denied_git (branch_moved branch.now id line.now) (S.seen store.old).content)
+        (saying denied_git (head_moved on.now id line.now) (S.seen store.old).content)
         (S.seen store.new).content }
     ensures owns { S.told → Changes (S.seen store.old).content (S.seen store.new).content }
     ensures writes { Writes S.told halt_cause result (S.seen store.old) (S.seen store.new) }
 {
-    match move_branch(alloc, store, branch, id, line) {
+    match move_head(alloc, store, on, id, line) {
         Ok(()) => Ok(()),
         Err(halt) => Err(git_halt(halt)),
     }
 }
 
-/// Moves the branch from HEAD's commit to a commit, with the line of a pick in its log and in HEAD's.
+/// Moves HEAD from one commit to another, with the line of a pick in its logs.
 fn move_to<S: Store>(
     alloc: Global,
-    branch: &[u8],
+    on: &Head,
     head: Id,
     id: Id,
     ident: &[u8],
     commit: &Commit,
     store: &mut S,
 ) -> Result<(), Halt<Denial>>
-    requires branch { IsRefName branch.now }
+    requires on { IsHeadValue on.now }
     requires who { IsSomeIdent ident.now }
     ensures turns { S.told → Turns (λ x. x) result
-        (saying denied_git (branch_moved branch.now id (pick_line head id ident.now commit.now.message)) (S.seen store.old).content)
+        (saying denied_git (head_moved on.now id (pick_line head id ident.now commit.now.message)) (S.seen store.old).content)
         (S.seen store.new).content }
     ensures owns { S.told → Changes (S.seen store.old).content (S.seen store.new).content }
     ensures writes { Writes S.told halt_cause result (S.seen store.old) (S.seen store.new) }
 {
     let line = line_of(alloc, head, id, ident, commit.message.as_slice())?;
-    put_branch(alloc, branch, id, &line, store)
+    put_head(alloc, on, id, &line, store)
 }
 
-/// Puts a commit, and moves the branch to it; answers its id.
+/// Puts a commit, and moves HEAD to it; answers its id.
 #[tactic(auto, unfolding(seq_model::specs::Making::with_commit), using(crate::proofs::Owning::owned_both))]
 fn commit_with<S: Store>(
     alloc: Global,
-    branch: &[u8],
+    on: &Head,
     head: Id,
     commit: &Commit,
     ident: &[u8],
     store: &mut S,
 ) -> Result<Id, Halt<Denial>>
-    requires branch { IsRefName branch.now }
+    requires on { IsHeadValue on.now }
     requires value { IsCommitValue commit.now }
     requires who { IsSomeIdent ident.now }
     ensures turns { S.told → Turns (λ id. id) result
-        (with_commit branch.now head commit.now ident.now (S.seen store.old).content)
+        (with_commit on.now head commit.now ident.now (S.seen store.old).content)
         (S.seen store.new).content }
     ensures owns { S.told → Changes (S.seen store.old).content (S.seen store.new).content }
     ensures writes { Writes S.told halt_cause result (S.seen store.old) (S.seen store.new) }
 {
     let id = put_commit(alloc, commit, store)?;
-    move_to(alloc, branch, head, id, ident, commit, store)?;
+    move_to(alloc, on, head, id, ident, commit, store)?;
     Ok(id)
 }
 
@@ -234,12 +233,5 @@ pub fn commit_pick<S: Store>(
 {
     let ident = ident_of(alloc, &pick.committer, zone, secs)?;
     let commit = new_commit(alloc, pick.tree, pick.head, &pick.commit, &ident)?;
-    commit_with(
-        alloc,
-        pick.branch.as_slice(),
-        pick.head,
-        &commit,
-        &ident,
-        store,
-    )
+    commit_with(alloc, &pick.on, pick.head, &commit, &ident, store)
 }

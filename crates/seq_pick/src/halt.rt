@@ -1,18 +1,10 @@
 //! Why a step of a pick gives no value.
 
 ghost use Rattle.std.specs.Prelude.{◌≡◌};
-ghost use Rattle.seq_model.specs.Refusing.{denied_file as denied_file_of, denied_git as denied_git_of};
-ghost use Rattle.seq_pick.specs.Halts.{told_by};
+ghost use Rattle.seq_model.specs.Refusing.{denied_file as denied_file_of, denied_git as denied_git_of, told_by};
 
 use seq_model::{Denial, Refusal};
 use seq_outside::{Halt, Lack};
-
-/// The halt of a refusal.
-pub fn refused(refusal: Refusal) -> Halt<Denial>
-    ensures { result ≡ Halt.Stops (Denial.Refused refusal) }
-{
-    Halt::Stops(Denial::Refused(refusal))
-}
 
 fn denied_file(lack: Lack) -> Denial
     ensures { result ≡ denied_file_of lack }

@@ -7,10 +7,9 @@ ghost use Rattle.ident_text.specs.Idents.{is_ident_byte as may_name};
 ghost use Rattle.seq_model.specs.Committers.{committer_in, identity_in, is_identity as is_identity_of, variable as variable_of};
 ghost use Rattle.seq_outside.specs.Halts.{Gives};
 
-use crate::halt::refused;
 use ident_text::is_ident_byte;
 use seq_base::Bytes;
-use seq_model::{Committer, Denial, Refusal};
+use seq_model::{Committer, Denial, Refusal, refused};
 use seq_outside::Halt;
 use std::alloc::Global;
 

@@ -12,10 +12,9 @@ ghost use Rattle.seq_outside.specs.Seen.{Reads};
 ghost use Rattle.seq_outside.specs.Halts.{Gives, halt_cause};
 ghost use Rattle.stage_index.specs.Stages.{is_merged};
 
-use crate::halt::refused;
 use index_file::{IndexEntry, IndexFault, parse_index};
 use seq_base::Bytes;
-use seq_model::{Denial, LimitWhat, Refusal};
+use seq_model::{Denial, LimitWhat, Refusal, refused};
 use seq_outside::{Halt, Store};
 use std::alloc::Global;
 

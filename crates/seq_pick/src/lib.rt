@@ -1,7 +1,6 @@
 //! One clean pick, over any store: what it finds, what it makes before its commit, and the commit.
 #![tactic(auto)]
 
-mod branch;
 mod clean;
 mod commits;
 mod committing;

@@ -15,13 +15,13 @@ ghost use Rattle.seq_pick.specs.Merging.{merging_is};
 ghost use Rattle.stage_index.specs.Switching.{first_obstructed};
 ghost use Rattle.worktree.specs.Switches.{switched_clear};
 
-use crate::halt::{file_halt, git_halt, refused};
+use crate::halt::{file_halt, git_halt};
 use crate::index::INDEX_LIMIT;
 use crate::merging::Merging;
 use index_file::IndexEntry;
 use path_trees::write_trees;
 use seq_base::{Bytes, Id, PathMap};
-use seq_model::{Denial, LimitWhat, Refusal};
+use seq_model::{Denial, LimitWhat, Refusal, refused};
 use seq_outside::{Halt, Store, StoreError};
 use stage_index::{from_map, staged_path};
 use std::alloc::Global;

@@ -10,12 +10,11 @@ ghost use Rattle.seq_pick.specs.Merging.{merging_is};
 
 use crate::clean::clean_map;
 use crate::commits::{commit, commit_map, map, only_parent};
-use crate::halt::refused;
-use crate::index::{index, refuse_unmerged};
+use crate::index::refuse_unmerged;
 use index_file::IndexEntry;
 use object_text::Commit;
 use seq_base::{Bytes, Id, PathMap};
-use seq_model::{Denial, Refusal};
+use seq_model::{Denial, Refusal, refused};
 use seq_outside::{Halt, Store};
 use std::alloc::Global;
 use tree_merge::{conflict, merged_map, plan};
@@ -103,15 +102,16 @@ fn merged_into<S: Store>(
 pub fn merge<S: Store>(
     alloc: Global,
     head: Id,
+    index: Vec<IndexEntry>,
     pick: Id,
     store: &mut S,
 ) -> Result<Merging, Halt<Denial>>
-    ensures gives { S.told → Gives merging_is result (merging_of (S.seen store.old).content head pick) }
+    requires { IsInOrder index.items }
+    ensures gives { S.told → Gives merging_is result (merging_of (S.seen store.old).content head index.items pick) }
     ensures order { IfOk result (λ m. IsInOrder m.index.items) }
     ensures value { IfOk result (λ m. IsCommitValue m.commit) }
     ensures reads { Reads S.told halt_cause result (S.seen store.old) (S.seen store.new) }
 {
-    let entries = index(alloc, store)?;
     let commit = commit(alloc, pick, store)?;
-    merged_into(alloc, head, entries, commit, store)
+    merged_into(alloc, head, index, commit, store)
 }

@@ -2,7 +2,9 @@
 
 ghost use Rattle.std.specs.Prelude.{◌≡◌, IfOk};
 ghost use Rattle.seq_model.specs.Changes.{Changes};
-ghost use Rattle.seq_model.specs.Pick.{found as found_of, found_on};
+ghost use Rattle.index_file.specs.Entries.{IsInOrder};
+ghost use Rattle.ref_text.specs.Heads.{IsHeadValue};
+ghost use Rattle.seq_model.specs.Pick.{found as found_of, found_at, found_in, found_on};
 ghost use Rattle.seq_model.specs.Picked.{finished, prepared, prepared_from};
 ghost use Rattle.seq_outside.specs.Env.{IsZone};
 ghost use Rattle.seq_outside.specs.Halts.{Gives, halt_cause};
@@ -11,53 +13,94 @@ ghost use Rattle.seq_outside.specs.Turns.{Turns};
 ghost use Rattle.seq_pick.specs.Finding.{IsFound, finding_is};
 ghost use Rattle.seq_pick.specs.Preparing.{IsReady, prepared_is};
 
-use crate::branch::{branch_of, id_in, tip_at};
 use crate::committing::{Prepared, commit_pick};
-use crate::halt::refused;
 use crate::identity::committer;
+use crate::index::index;
 use crate::making::make_merge;
 use crate::merging::{Merging, merge};
 use crate::unbuilt::refuse_unbuilt;
+use index_file::IndexEntry;
+use ref_text::Head;
 use seq_base::{Bytes, Id};
-use seq_model::{Committer, Denial, Refusal};
+use seq_model::{Committer, Denial, Place};
 use seq_outside::{Halt, Store};
+use start_checks::{born, commit_by, place_in, want_repository};
 use std::alloc::Global;
 
 /// What a pick finds.
 #[derive(Drop)]
 pub struct Finding {
-    /// The branch that HEAD is on.
-    pub branch: Bytes,
+    /// What HEAD is.
+    pub on: Head,
     /// The commit that it is at.
     pub head: Id,
     pub committer: Committer,
     pub merging: Merging,
 }
 
-/// What a pick finds on the branch that HEAD's text names.
+/// What the pick of a commit finds on HEAD.
 #[tactic(auto, unfolding(seq_model::specs::Pick::found_on))]
 fn find_on<S: Store>(
     alloc: Global,
     vars: &[(Bytes, Bytes)],
-    text: &[u8],
+    on: Head,
+    head: Id,
+    index: Vec<IndexEntry>,
     pick: Id,
     store: &mut S,
 ) -> Result<Finding, Halt<Denial>>
-    ensures gives { S.told → Gives finding_is result (found_on vars.now (S.seen store.old).content text.now pick) }
+    requires on { IsHeadValue on }
+    requires order { IsInOrder index.items }
+    ensures gives { S.told → Gives finding_is result (found_on vars.now (S.seen store.old).content on head index.items pick) }
     ensures found { IfOk result IsFound }
     ensures reads { Reads S.told halt_cause result (S.seen store.old) (S.seen store.new) }
 {
-    let branch = branch_of(text)?;
-    let head = tip_at(alloc, branch, store)?;
     let committer = committer(alloc, vars)?;
-    let merging = merge(alloc, head, pick, store)?;
-    let branch = Bytes::from_vec(Vec::from_slice(alloc, branch)?);
+    let merging = merge(alloc, head, index, pick, store)?;
     Ok(Finding {
-        branch,
+        on,
         head,
         committer,
         merging,
     })
+}
+
+/// What the pick of the commit that a word names finds at a place.
+#[tactic(auto, unfolding(seq_model::specs::Pick::found_at))]
+fn find_at<S: Store>(
+    alloc: Global,
+    vars: &[(Bytes, Bytes)],
+    word: &[u8],
+    place: Place,
+    index: Vec<IndexEntry>,
+    store: &mut S,
+) -> Result<Finding, Halt<Denial>>
+    requires on { IsHeadValue place.head }
+    requires order { IsInOrder index.items }
+    ensures gives { S.told → Gives finding_is result (found_at vars.now word.now (S.seen store.old).content place index.items) }
+    ensures found { IfOk result IsFound }
+    ensures reads { Reads S.told halt_cause result (S.seen store.old) (S.seen store.new) }
+{
+    let pick = commit_by(alloc, word, store)?;
+    let head = born(place.tip)?;
+    find_on(alloc, vars, place.head, head, index, pick, store)
+}
+
+/// The same, in a repository of which all is taken.
+#[tactic(auto, unfolding(seq_model::specs::Pick::found_in))]
+fn find_in<S: Store>(
+    alloc: Global,
+    vars: &[(Bytes, Bytes)],
+    word: &[u8],
+    store: &mut S,
+) -> Result<Finding, Halt<Denial>>
+    ensures gives { S.told → Gives finding_is result (found_in vars.now word.now (S.seen store.old).content) }
+    ensures found { IfOk result IsFound }
+    ensures reads { Reads S.told halt_cause result (S.seen store.old) (S.seen store.new) }
+{
+    let place = place_in(alloc, store)?;
+    let index = index(alloc, store)?;
+    find_at(alloc, vars, word, place, index, store)
 }
 
 /// What the pick of the commit that a word names finds.
@@ -72,15 +115,9 @@ fn find<S: Store>(
     ensures found { IfOk result IsFound }
     ensures reads { Reads S.told halt_cause result (S.seen store.old) (S.seen store.new) }
 {
-    let Some(text) = store.get(alloc, b".git/HEAD")? else {
-        return Err(refused(Refusal::NotARepository));
-    };
-    let Some(commit) = id_in(word) else {
-        return Err(refused(Refusal::NotBuilt));
-    };
+    want_repository(alloc, store)?;
     refuse_unbuilt(alloc, store)?;
-    let found = find_on(alloc, vars, &text, commit, store)?;
-    Ok(found)
+    find_in(alloc, vars, word, store)
 }
 
 /// Makes what a pick makes before its commit.
@@ -98,7 +135,7 @@ fn prepare_found<S: Store>(
 {
     let tree = make_merge(alloc, &found.merging, store)?;
     Ok(Prepared {
-        branch: found.branch,
+        on: found.on,
         head: found.head,
         committer: found.committer,
         commit: found.merging.commit,
@@ -125,7 +162,7 @@ pub fn prepare<S: Store>(
     prepare_found(alloc, found, store)
 }
 
-/// Makes the commit of a pick at a moment, moves the branch to it, with its logs, and answers its id.
+/// Makes the commit of a pick at a moment, moves HEAD to it, with its logs, and answers its id.
 pub fn finish<S: Store>(
     alloc: Global,
     pick: &Prepared,

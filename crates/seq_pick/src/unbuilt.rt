@@ -7,8 +7,7 @@ ghost use Rattle.seq_model.specs.Unbuilt.{lacks, lacks_all, lacks_below, only_bu
 ghost use Rattle.seq_outside.specs.Seen.{Reads};
 ghost use Rattle.seq_outside.specs.Halts.{Gives, halt_cause};
 
-use crate::halt::refused;
-use seq_model::{Denial, Refusal};
+use seq_model::{Denial, Refusal, refused};
 use seq_outside::{Halt, Store};
 use std::alloc::Global;
 
@@ -55,12 +54,12 @@ fn refuse_any<S: Store>(alloc: Global, paths: &[&[u8]], store: &mut S) -> Result
     Ok(())
 }
 
-/// Refuses where a command is in progress, or a configuration or packed refs stand.
+/// Refuses where a command is in progress, or a configuration stands.
 fn refuse_untaken<S: Store>(alloc: Global, store: &mut S) -> Result<(), Halt<Denial>>
     ensures gives { S.told → Gives (λ x. x) result (lacks_all (S.seen store.old).content untaken_paths) }
     ensures reads { Reads S.told halt_cause result (S.seen store.old) (S.seen store.new) }
 {
-    let paths: [&[u8]; 8] = [
+    let paths: [&[u8]; 7] = [
         b".git/rebase-merge",
         b".git/sequencer",
         b".git/rebase-apply",
@@ -68,7 +67,6 @@ fn refuse_untaken<S: Store>(alloc: Global, store: &mut S) -> Result<(), Halt<Den
         b".git/REVERT_HEAD",
         b".git/MERGE_HEAD",
         b".git/config",
-        b".git/packed-refs",
     ];
     refuse_any(alloc, &paths, store)
 }

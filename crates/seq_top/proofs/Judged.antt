@@ -2,7 +2,7 @@
 use Rattle.std.proofs.Common.{◌≡◌, ◌≢◌, ◌⊎◌, inl, inr, ℕ, ℤ, ◌≤◌, List, Option, Result, Ok, Err, refl, sym, ap, subst, ◌∙◌, arith}
 use Rattle.seq_base.specs.Words.{Id, Name, Text}
 use Rattle.seq_base.specs.World.{World}
-use Rattle.seq_model.specs.Answers.{HasCause as IsCaused}
+use Rattle.seq_model.specs.Answers.{HasOutcomeCause}
 use Rattle.seq_model.specs.Answers.{Fits, FitsJudged, FitsWorld, IsAtMoment, IsAtNone, IsJudged, IsOfPick, IsUnmade, ended}
 use Rattle.seq_model.specs.Built.{commit_to_pick, meant, picked_or_not}
 use Rattle.seq_model.specs.Picked.{Prepared as Definition, finished, picked, prepared}
@@ -16,7 +16,7 @@ use Rattle.seq_outside.specs.Halts.{Denies, halt_cause}
 use Rattle.seq_outside.specs.Turns.{Turns}
 use Rattle.seq_pick.specs.declared.committing.Prepared.{Prepared}
 use Rattle.seq_outside.specs.Seen.{Cause, HasCause, HasReadCause, Seen, Stays}
-use Rattle.seq_outside.specs.Seen.Cause.{ByBlock, ByEither, ByFault, ByNone}
+use Rattle.seq_outside.specs.Seen.Cause.{ByBlock, ByFault, ByNone}
 use Rattle.seq_outside.specs.declared.env.Env.{Env}
 use Rattle.seq_outside.specs.declared.halt.Halt.{Halt}
 use Rattle.seq_outside.specs.declared.halt.Halt.TheVariants as halts
@@ -134,7 +134,6 @@ pub stays_by : (told : Type 0) (cause : Cause) (old new : Seen) → HasCause tol
 stays_by told ByNone old new is = is.1
 stays_by told ByFault old new is = is.2
 stays_by told ByBlock old new is = is.2
-stays_by told ByEither old new is = is.2
 
 pub judged_cause : (told : Type 0) (result : Result Id (Halt Denial)) (old mid new : Seen) → mid.faults ≡ old.faults → old.blocked ≤ mid.blocked → HasEndCause told result mid new → HasJudgedCause told (outcome_of result) old new
 judged_cause told (Ok id) old mid new same grows is = is ∙ same
@@ -150,7 +149,7 @@ judged_cause told (Err halts.Memory) old mid new same grows is = is ∙ same
 -- ---- printing
 
 pub caused : (told : Type 0) (outcome judged : Outcome) (old new : Seen) (sink sink' : ℕ) → FitsJudged outcome judged → HasJudgedCause told judged old new
-    → (outcome ≡ OutputFault → judged ≢ OutputFault → Rose sink sink') → IsCaused told outcome old new sink sink'
+    → (outcome ≡ OutputFault → judged ≢ OutputFault → Rose sink sink') → HasOutcomeCause told outcome old new sink sink'
 caused told (Done head) judged old new sink sink' fits is printed = subst (λ (o : Outcome). HasJudgedCause told o old new) fits is
 caused told (Stopped kind paths) judged old new sink sink' fits is printed = subst (λ (o : Outcome). HasJudgedCause told o old new) fits is
 caused told (Usage fault) judged old new sink sink' fits is printed = subst (λ (o : Outcome). HasJudgedCause told o old new) fits is

@@ -4,7 +4,6 @@ use Rattle.seq_base.specs.Words.{Id}
 use Rattle.seq_base.specs.World.{World}
 use Rattle.seq_model.specs.Answers.{aimed, ended}
 use Rattle.seq_model.specs.declared.denial.Denial.{Denial}
-use Rattle.seq_model.specs.declared.denial.Denial.TheVariants as denied
 use Rattle.seq_model.specs.declared.outcome.Outcome.{Outcome}
 use Rattle.seq_model.specs.declared.outcome.Outcome.TheVariants.{StoreFault, ChildFault, OutputFault, Memory}
 use Rattle.seq_outside.specs.Causes.{Rose}

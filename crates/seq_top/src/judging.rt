@@ -15,10 +15,11 @@ ghost use Rattle.seq_top.specs.Judging.{Ends, HasEndCause, HasJudgedCause, outco
 
 use crate::built::commit_to_pick;
 use seq_base::{Bytes, Id};
-use seq_model::{Command, Denial, Outcome, Refusal};
+use seq_model::{Command, Denial, Outcome, Refusal, refused};
 use seq_outside::{Changes, Clock, DraftStore, Env, Halt, Store};
 use seq_pick::{Prepared, finish, prepare};
 use seq_words::{BadWords, read_words};
+use start_checks::want_repository;
 use std::alloc::Global;
 
 fn denied(denial: Denial) -> Outcome
@@ -118,10 +119,11 @@ fn unbuilt<S: Store>(alloc: Global, store: &mut S) -> Halt<Denial>
     ensures same { S.told → (S.seen store.new).content ≡ (S.seen store.old).content }
     ensures cause { HasReadCause S.told (halt_cause result) (S.seen store.old) (S.seen store.new) }
 {
-    match store.get(alloc, b".git/HEAD") {
-        Ok(Some(_)) => Halt::Stops(Denial::Refused(Refusal::NotBuilt)),
-        Ok(None) => Halt::Stops(Denial::Refused(Refusal::NotARepository)),
-        Err(error) => Halt::from(error),
+    match want_repository(alloc, store) {
+        Ok(()) => refused(Refusal::NotBuilt),
+        Err(Halt::Stops(denial)) => Halt::Stops(denial),
+        Err(Halt::Fault) => Halt::Fault,
+        Err(Halt::Memory) => Halt::Memory,
     }
 }
 

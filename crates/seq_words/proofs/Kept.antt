@@ -1,8 +1,9 @@
 -- What is found of a name, where a parse holds what was given.
-use Rattle.std.proofs.Common.{◌≡◌, ◌∙◌, ◌==◌, ◌&&◌, ◌||◌, ℕ, Bool, cond, true, false, refl, sym, ap, ap₂, subst, List, [], ◌∷◌, ◌++◌, map, Option, Some, None, is_some, true≢false, option_map}
+use Rattle.std.proofs.Common.{arith, length, suc, ◌≡◌, ◌∙◌, ◌+◌, ◌||◌, ℕ, Bool, cond, true, false, refl, sym, ap, List, [], ◌∷◌, ◌++◌, map, Option, Some, None, is_some, true≢false, option_map}
 use Rattle.std.specs.Str.{bytes_eq}
-use Rattle.std.specs.List.{filter, find, fold, list_any}
-use Rattle.std.specs.Prelude.{option_and_then, slice_get, unwrap_or}
+use Rattle.std.specs.List.{filter, find}
+use Rattle.std.specs.Prelude.{count_by, nat_lt, option_and_then, slice_get, unwrap_or}
+use Rattle.std.proofs.lemmas.List.Sums.{sum_by-cons}
 use Rattle.std.proofs.lemmas.List.{append_assoc, append-nil}
 use Rattle.std.proofs.lemmas.Slice.Eq.{bytes_eq-Decides}
 use Rattle.seq_model.specs.Commands.{value_given, values_given}
@@ -111,5 +112,30 @@ holds_value m all name h = at (matched_of (found_of m) name) ∙ ap (λ (vs : Li
             → slice_get (map (λ (x : Given). x.value) (cond b (g ∷ filter (is_row name) gs) (filter (is_row name) gs))) 0 ≡ option_map (λ (x : Given). x.value) (cond b (Some g) (find (is_row name) gs))
         go true later = refl
         go false later = later
+
+-- as many stand as have a value
+counted_is : (name : Text) (all : List Given) → count_by (is_row name) all ≡ length (values_given all name)
+counted_is name [] = refl
+counted_is name (g ∷ all) = sum_by-cons (λ x. cond (is_row name x) 1 0) g all ∙ ap (λ (n : ℕ). cond (bytes_eq g.row.name name) 1 0 + n) (counted_is name all) ∙ go (bytes_eq g.row.name name)
+  where
+    go : (b : Bool) → cond b 1 0 + length (values_given all name) ≡ length (map (λ (x : Given). x.value) (cond b (g ∷ filter (is_row name) all) (filter (is_row name) all)))
+    go true = let one : 1 + length (values_given all name) ≡ suc (length (values_given all name)) = omega arith in one
+    go false = let none : 0 + length (values_given all name) ≡ length (values_given all name) = omega arith in none
+
+length_now : (xs : List (Bor Text)) → length (map (λ x. x.now) xs) ≡ length xs
+length_now [] = refl
+length_now (x ∷ xs) = ap suc (length_now xs)
+
+abbrev texts_of : Option (Bor (List (Bor Text))) → List Text
+texts_of o = unwrap_or (option_map (λ texts. map (λ text. text.now) texts.now) o) []
+
+pub counted_some : (name : Text) (all : List Given) (o : Option (Bor (List (Bor Text)))) (texts : Bor (List (Bor Text))) → o ≡ Some texts
+    → texts_of o ≡ values_given all name → nat_lt (length texts.now) 2 ≡ nat_lt (count_by (is_row name) all) 2
+counted_some name all o texts is values =
+    ap (λ (n : ℕ). nat_lt n 2) (sym (length_now texts.now) ∙ ap length (sym (ap texts_of is) ∙ values) ∙ sym (counted_is name all))
+
+pub counted_none : (name : Text) (all : List Given) (o : Option (Bor (List (Bor Text)))) → o ≡ None
+    → texts_of o ≡ values_given all name → true ≡ nat_lt (count_by (is_row name) all) 2
+counted_none name all o is values = ap (λ (n : ℕ). nat_lt n 2) (ap length (sym (ap texts_of is) ∙ values) ∙ sym (counted_is name all))
 
 pub ruleset held_words = (holds_given, holds_values, holds_value)

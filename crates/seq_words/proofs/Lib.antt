@@ -1,7 +1,9 @@
 pub mod Ends
+pub mod Forms
+pub mod Heard
 pub mod Kept
+pub mod Placed
 pub mod Steps
 pub mod Taken
 pub mod Verbs
-pub mod Views
 pub mod Walks

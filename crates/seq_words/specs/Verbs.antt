@@ -1,25 +1,35 @@
 -- The command that `clap` is told of: one argument a row.
-use Rattle.std.specs.Prelude.{◌&&◌, Bool, true, false, not, List, [], ◌∷◌, drop, map, slice_get, Option, Some, None, codes, if◌then◌else◌}
+use Rattle.std.specs.Prelude.{true, List, [], ◌∷◌, map, option_map, slice_get, Option, Some, None, codes, if◌then◌else◌}
+use Rattle.std.specs.Option.{option_or}
 use Rattle.std.specs.List.{fold}
-use Rattle.seq_model.specs.Given.{is_dashed, is_long}
 use Rattle.seq_model.specs.Rows.{Row, is_flag}
 use Rattle.clap.specs.Simple.{App, built, new_app, new_rule, on_top, with_rule}
-use Rattle.clap.specs.Walk.{Rule}
+use Rattle.clap.specs.Lexer.{strip_byte}
+use Rattle.clap.specs.Walk.{Rule, Text}
 use Rattle.clap.specs.declared.builder.action.ArgAction.TheVariants.{Append}
-use Rattle.clap.specs.declared.builder.range.ValueRange.{ValueRange}
+
+-- each use of an argument is kept
+abbrev pub kept_rule : Row → Rule
+kept_rule row = record (new_rule row.name) { action = Some Append }
 
 -- a flag takes no value, and each use of it has the empty one
-abbrev pub told_rule : Row → Rule
-told_rule row = record (new_rule row.name) {
-  long = if is_long row.name then Some (drop 2 row.name) else None;
-  short = if is_dashed row.name && not (is_long row.name) then slice_get row.name 1 else None;
-  action = Some Append;
-  range = if is_flag row.form then Some (record {
+abbrev pub valued_rule : Row → Rule
+valued_rule row = if is_flag row.form then record (kept_rule row) {
+  range = Some (record {
     start_inclusive = 0;
     end_inclusive = 0;
-  }) else None;
-  missing = if is_flag row.form then [] ∷ [] else [];
-}
+  });
+  missing = [] ∷ [];
+} else kept_rule row
+
+-- by `--long`, by `-s`, or by no name
+abbrev pub named_rule : Option Text → Option (Option Text) → Rule → Rule
+named_rule None stem rule = rule
+named_rule (Some rest) (Some (Some long)) rule = record rule { long = Some long }
+named_rule (Some rest) _ rule = record rule { short = option_or (slice_get rest 0) rule.short }
+
+abbrev pub told_rule : Row → Rule
+told_rule row = named_rule (strip_byte 45 row.name) (option_map (strip_byte 45) (strip_byte 45 row.name)) (valued_rule row)
 
 abbrev pub no_rules : App
 no_rules = on_top (λ s. record s {

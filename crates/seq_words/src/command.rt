@@ -1,58 +1,73 @@
 //! What plain words without a fault ask for.
 
-ghost use Rattle.std.specs.Prelude.{◌≡◌, [], IfOk, codes, map, option_map, unwrap_or};
-ghost use Rattle.seq_model.specs.Commands.{action_given as action_given_in, cherry_pick_empty as cherry_pick_empty_of, cherry_pick_options as cherry_pick_options_of, empty_given as empty_given_in, is_keep as is_keep_of, mainline_given as mainline_given_in, picks as picks_of, rebase_empty as rebase_empty_of, rebase_options as rebase_options_of, rebase_start as rebase_start_of, revert_options as revert_options_of, value_given as value_given_in, values_given as values_given_in};
+ghost use Rattle.std.specs.Prelude.{◌≡◌, List, [], IfOk, codes, map, option_map, unwrap_or};
+ghost use Rattle.seq_model.specs.Commands.{add as add_of, cat as cat_of, cherry_pick as cherry_pick_of, cherry_pick_empty as cherry_pick_empty_of, cherry_pick_options as cherry_pick_options_of, commit as commit_of, empty_given as empty_given_in, is_keep as is_keep_of, mainline_given as mainline_given_in, picks as picks_of, rebase as rebase_of, rebase_empty as rebase_empty_of, rebase_options as rebase_options_of, rebase_start as rebase_start_of, revert as revert_of, revert_options as revert_options_of, rm as rm_of, value_given as value_given_in, values_given as values_given_in};
 ghost use Rattle.seq_model.specs.Faults.{shell_command as shell_command_of};
-ghost use Rattle.seq_words.specs.Rows.{all_given};
+ghost use Rattle.seq_model.specs.Given.{Given};
+ghost use Rattle.seq_words.specs.Told.{Holds};
+ghost use Rattle.seq_words.specs.VerbWords.{asked_by};
 
 use crate::fault::bytes_of;
-use crate::given::{Given, is_given, is_row};
+use crate::matches::{action_given, is_given, texts_given};
 use crate::value::{empty_named, parent_number, shell_command};
+use crate::verb::VerbWord;
+use clap::ArgMatches;
 use seq_base::Bytes;
-use seq_model::{Action, Empty, Options, StartWords, Values, Verb};
+use seq_model::{Command, Empty, Options, PlumbWords, StartWords, Values, Verb};
 use std::alloc::{AllocError, Global};
 
-fn value_given<'a>(all: &[Given<'a>], name: &[u8]) -> Option<&'a [u8]>
-    ensures { option_map (λ value. value.now) result ≡ value_given_in (all_given all.now) name.now }
+/// The first value.
+#[tactic(auto, using(crate::proofs::Kept::held_words))]
+fn value_given<'a>(m: &ArgMatches<'a>, name: &str) -> Option<&'a str>
+    ensures { (all : List Given) → Holds m.now all → option_map (λ value. value.now) result ≡ value_given_in all name.now }
 {
-    let mut rest = all;
-    while let [given, after @ ..] = rest {
-        if is_row(name, given) {
-            return Some(given.value);
-        }
+    m.get_str(name)
+}
+
+/// Copies of the texts.
+fn values_of(alloc: Global, texts: &[&str]) -> Result<Values, AllocError>
+    ensures { IfOk result (λ values. values ≡ map (λ value. value.now) texts.now) }
+{
+    let mut values = Vec::new(alloc);
+    let mut rest = texts;
+    while let [text, after @ ..] = rest {
+        values.push(bytes_of(alloc, text.as_bytes())?)?;
         rest = after;
     }
-    None
+    Ok(Values::from_vec(values))
+}
+
+/// The commands that the texts are.
+fn commands_of(alloc: Global, texts: &[&str]) -> Result<Values, AllocError>
+    ensures { IfOk result (λ values. values ≡ map shell_command_of (map (λ value. value.now) texts.now)) }
+{
+    let mut values = Vec::new(alloc);
+    let mut rest = texts;
+    while let [text, after @ ..] = rest {
+        values.push(bytes_of(alloc, shell_command(text.as_bytes()))?)?;
+        rest = after;
+    }
+    Ok(Values::from_vec(values))
 }
 
 /// The values, in the order given.
-pub fn values_given(alloc: Global, all: &[Given], name: &[u8]) -> Result<Values, AllocError>
-    ensures { IfOk result (λ values. values ≡ values_given_in (all_given all.now) name.now) }
+fn values_given(alloc: Global, m: &ArgMatches, name: &str) -> Result<Values, AllocError>
+    ensures { (all : List Given) → Holds m.now all → IfOk result (λ values. values ≡ values_given_in all name.now) }
 {
-    let mut values = Vec::new(alloc);
-    let mut rest = all;
-    while let [given, after @ ..] = rest {
-        if is_row(name, given) {
-            values.push(bytes_of(alloc, given.value)?)?;
-        }
-        rest = after;
+    match texts_given(m, name) {
+        Some(texts) => values_of(alloc, texts),
+        None => Ok(no_values(alloc)),
     }
-    Ok(Values::from_vec(values))
 }
 
 /// The commands of `-x`, in the order given.
-fn commands_given(alloc: Global, all: &[Given]) -> Result<Values, AllocError>
-    ensures { IfOk result (λ values. values ≡ map shell_command_of (values_given_in (all_given all.now) (codes "-x"))) }
+fn commands_given(alloc: Global, m: &ArgMatches) -> Result<Values, AllocError>
+    ensures { (all : List Given) → Holds m.now all → IfOk result (λ values. values ≡ map shell_command_of (values_given_in all (codes "-x"))) }
 {
-    let mut values = Vec::new(alloc);
-    let mut rest = all;
-    while let [given, after @ ..] = rest {
-        if is_row(b"-x", given) {
-            values.push(bytes_of(alloc, shell_command(given.value))?)?;
-        }
-        rest = after;
+    match texts_given(m, "-x") {
+        Some(texts) => commands_of(alloc, texts),
+        None => Ok(no_values(alloc)),
     }
-    Ok(Values::from_vec(values))
 }
 
 fn no_values(alloc: Global) -> Values
@@ -62,82 +77,64 @@ fn no_values(alloc: Global) -> Values
 }
 
 /// The value, or nothing where there is none.
-pub fn value_or_empty(alloc: Global, all: &[Given], name: &[u8]) -> Result<Bytes, AllocError>
-    ensures { IfOk result (λ value. value ≡ unwrap_or (value_given_in (all_given all.now) name.now) []) }
+fn value_or_empty(alloc: Global, m: &ArgMatches, name: &str) -> Result<Bytes, AllocError>
+    ensures { (all : List Given) → Holds m.now all → IfOk result (λ value. value ≡ unwrap_or (value_given_in all name.now) []) }
 {
-    match value_given(all, name) {
-        Some(value) => bytes_of(alloc, value),
+    match value_given(m, name) {
+        Some(value) => bytes_of(alloc, value.as_bytes()),
         None => bytes_of(alloc, &[]),
     }
 }
 
-fn onto_given(alloc: Global, all: &[Given]) -> Result<Option<Bytes>, AllocError>
-    ensures { IfOk result (λ onto. onto ≡ value_given_in (all_given all.now) (codes "--onto")) }
+fn onto_given(alloc: Global, m: &ArgMatches) -> Result<Option<Bytes>, AllocError>
+    ensures { (all : List Given) → Holds m.now all → IfOk result (λ onto. onto ≡ value_given_in all (codes "--onto")) }
 {
-    match value_given(all, b"--onto") {
-        Some(value) => Ok(Some(bytes_of(alloc, value)?)),
+    match value_given(m, "--onto") {
+        Some(value) => Ok(Some(bytes_of(alloc, value.as_bytes())?)),
         None => Ok(None),
     }
 }
 
-pub fn action_given(all: &[Given]) -> Option<Action>
-    ensures { result ≡ action_given_in (all_given all.now) }
+fn empty_given(m: &ArgMatches) -> Option<Empty>
+    ensures { (all : List Given) → Holds m.now all → result ≡ empty_given_in all }
 {
-    if is_given(all, b"--continue") {
-        Some(Action::Continue)
-    } else if is_given(all, b"--skip") {
-        Some(Action::Skip)
-    } else if is_given(all, b"--abort") {
-        Some(Action::Abort)
-    } else if is_given(all, b"--quit") {
-        Some(Action::Quit)
-    } else if is_given(all, b"--edit-todo") {
-        Some(Action::EditTodo)
-    } else {
-        None
-    }
-}
-
-fn empty_given(all: &[Given]) -> Option<Empty>
-    ensures { result ≡ empty_given_in (all_given all.now) }
-{
-    match value_given(all, b"--empty") {
-        Some(word) => empty_named(word),
+    match value_given(m, "--empty") {
+        Some(word) => empty_named(word.as_bytes()),
         None => None,
     }
 }
 
-fn mainline_given(all: &[Given]) -> Option<u32>
-    ensures { result ≡ mainline_given_in (all_given all.now) }
+fn mainline_given(m: &ArgMatches) -> Option<u32>
+    ensures { (all : List Given) → Holds m.now all → result ≡ mainline_given_in all }
 {
-    match value_given(all, b"-m") {
-        Some(word) => parent_number(word),
+    match value_given(m, "-m") {
+        Some(word) => parent_number(word.as_bytes()),
         None => None,
     }
 }
 
-fn rebase_empty(all: &[Given]) -> Empty
-    ensures { result ≡ rebase_empty_of (all_given all.now) }
+fn rebase_empty(m: &ArgMatches) -> Empty
+    ensures { (all : List Given) → Holds m.now all → result ≡ rebase_empty_of all }
 {
-    if let Some(empty) = empty_given(all) {
+    if let Some(empty) = empty_given(m) {
         return empty;
     }
-    if is_given(all, b"-i") {
+    if is_given(m, "-i") {
         Empty::Stop
-    } else if is_given(all, b"-x") {
+    } else if is_given(m, "-x") {
         Empty::Keep
     } else {
         Empty::Drop
     }
 }
 
-fn rebase_options(all: &[Given]) -> Options
-    ensures { result ≡ rebase_options_of (all_given all.now) }
+fn rebase_options(m: &ArgMatches) -> Options
+    ensures { (all : List Given) → Holds m.now all → result ≡ rebase_options_of all }
 {
     Options {
-        ff: !is_given(all, b"--no-ff"),
-        empty: rebase_empty(all),
-        reschedule: is_given(all, b"--reschedule-failed-exec"),
+        ff: !is_given(m, "--no-ff"),
+        empty: rebase_empty(m),
+        reschedule: is_given(m, "--reschedule-failed-exec"),
         mainline: None,
         edit: false,
         record_origin: false,
@@ -145,32 +142,32 @@ fn rebase_options(all: &[Given]) -> Options
     }
 }
 
-pub fn rebase_start(alloc: Global, all: &[Given]) -> Result<StartWords, AllocError>
-    ensures { IfOk result (λ start. start ≡ rebase_start_of (all_given all.now)) }
+fn rebase_start(alloc: Global, m: &ArgMatches) -> Result<StartWords, AllocError>
+    ensures { (all : List Given) → Holds m.now all → IfOk result (λ start. start ≡ rebase_start_of all) }
 {
-    let revs = values_given(alloc, all, b"UPSTREAM")?;
-    let onto = onto_given(alloc, all)?;
-    let execs = commands_given(alloc, all)?;
+    let revs = values_given(alloc, m, "UPSTREAM")?;
+    let onto = onto_given(alloc, m)?;
+    let execs = commands_given(alloc, m)?;
     Ok(StartWords {
         verb: Verb::Rebase,
-        options: rebase_options(all),
+        options: rebase_options(m),
         revs,
         onto,
-        interactive: is_given(all, b"-i"),
-        merges: is_given(all, b"--rebase-merges"),
-        autosquash: is_given(all, b"--autosquash"),
-        update_refs: is_given(all, b"--update-refs"),
+        interactive: is_given(m, "-i"),
+        merges: is_given(m, "--rebase-merges"),
+        autosquash: is_given(m, "--autosquash"),
+        update_refs: is_given(m, "--update-refs"),
         execs,
     })
 }
 
-fn cherry_pick_empty(all: &[Given]) -> Empty
-    ensures { result ≡ cherry_pick_empty_of (all_given all.now) }
+fn cherry_pick_empty(m: &ArgMatches) -> Empty
+    ensures { (all : List Given) → Holds m.now all → result ≡ cherry_pick_empty_of all }
 {
-    if is_given(all, b"--keep-redundant-commits") {
+    if is_given(m, "--keep-redundant-commits") {
         return Empty::Keep;
     }
-    match empty_given(all) {
+    match empty_given(m) {
         Some(empty) => empty,
         None => Empty::Stop,
     }
@@ -185,45 +182,45 @@ fn is_keep(empty: Empty) -> bool
     }
 }
 
-pub fn cherry_pick_options(all: &[Given]) -> Options
-    ensures { result ≡ cherry_pick_options_of (all_given all.now) }
+fn cherry_pick_options(m: &ArgMatches) -> Options
+    ensures { (all : List Given) → Holds m.now all → result ≡ cherry_pick_options_of all }
 {
-    let empty = cherry_pick_empty(all);
+    let empty = cherry_pick_empty(m);
     Options {
         ff: false,
         empty,
         reschedule: false,
-        mainline: mainline_given(all),
-        edit: is_given(all, b"-e"),
-        record_origin: is_given(all, b"-x"),
-        allow_empty: is_given(all, b"--allow-empty") || is_keep(empty),
+        mainline: mainline_given(m),
+        edit: is_given(m, "-e"),
+        record_origin: is_given(m, "-x"),
+        allow_empty: is_given(m, "--allow-empty") || is_keep(empty),
     }
 }
 
-pub fn revert_options(all: &[Given]) -> Options
-    ensures { result ≡ revert_options_of (all_given all.now) }
+fn revert_options(m: &ArgMatches) -> Options
+    ensures { (all : List Given) → Holds m.now all → result ≡ revert_options_of all }
 {
     Options {
         ff: false,
         empty: Empty::Stop,
         reschedule: false,
-        mainline: mainline_given(all),
-        edit: is_given(all, b"-e"),
+        mainline: mainline_given(m),
+        edit: is_given(m, "-e"),
         record_origin: false,
         allow_empty: false,
     }
 }
 
 /// The start of a pick or a revert of what is named.
-pub fn picks(
+fn picks(
     alloc: Global,
     verb: Verb,
     options: Options,
-    all: &[Given],
+    m: &ArgMatches,
 ) -> Result<StartWords, AllocError>
-    ensures { IfOk result (λ start. start ≡ picks_of verb options (all_given all.now)) }
+    ensures { (all : List Given) → Holds m.now all → IfOk result (λ start. start ≡ picks_of verb options all) }
 {
-    let revs = values_given(alloc, all, b"REV")?;
+    let revs = values_given(alloc, m, "REV")?;
     Ok(StartWords {
         verb,
         options,
@@ -235,4 +232,79 @@ pub fn picks(
         update_refs: false,
         execs: no_values(alloc),
     })
+}
+
+fn rebase(alloc: Global, m: &ArgMatches) -> Result<Command, AllocError>
+    ensures { (all : List Given) → Holds m.now all → IfOk result (λ command. command ≡ rebase_of all) }
+{
+    if let Some(action) = action_given(m) {
+        return Ok(Command::Act(Verb::Rebase, action));
+    }
+    Ok(Command::Start(rebase_start(alloc, m)?))
+}
+
+fn cherry_pick(alloc: Global, m: &ArgMatches) -> Result<Command, AllocError>
+    ensures { (all : List Given) → Holds m.now all → IfOk result (λ command. command ≡ cherry_pick_of all) }
+{
+    if let Some(action) = action_given(m) {
+        return Ok(Command::Act(Verb::CherryPick, action));
+    }
+    let options = cherry_pick_options(m);
+    Ok(Command::Start(picks(alloc, Verb::CherryPick, options, m)?))
+}
+
+fn revert(alloc: Global, m: &ArgMatches) -> Result<Command, AllocError>
+    ensures { (all : List Given) → Holds m.now all → IfOk result (λ command. command ≡ revert_of all) }
+{
+    if let Some(action) = action_given(m) {
+        return Ok(Command::Act(Verb::Revert, action));
+    }
+    let options = revert_options(m);
+    Ok(Command::Start(picks(alloc, Verb::Revert, options, m)?))
+}
+
+fn add(alloc: Global, m: &ArgMatches) -> Result<Command, AllocError>
+    ensures { (all : List Given) → Holds m.now all → IfOk result (λ command. command ≡ add_of all) }
+{
+    let paths = values_given(alloc, m, "PATH")?;
+    Ok(Command::Plumb(PlumbWords::Add { paths }))
+}
+
+fn rm(alloc: Global, m: &ArgMatches) -> Result<Command, AllocError>
+    ensures { (all : List Given) → Holds m.now all → IfOk result (λ command. command ≡ rm_of all) }
+{
+    let paths = values_given(alloc, m, "PATH")?;
+    Ok(Command::Plumb(PlumbWords::Rm { paths }))
+}
+
+fn commit(alloc: Global, m: &ArgMatches) -> Result<Command, AllocError>
+    ensures { (all : List Given) → Holds m.now all → IfOk result (λ command. command ≡ commit_of all) }
+{
+    let message = value_or_empty(alloc, m, "-m")?;
+    let amend = is_given(m, "--amend");
+    Ok(Command::Plumb(PlumbWords::Commit { amend, message }))
+}
+
+fn cat(alloc: Global, m: &ArgMatches) -> Result<Command, AllocError>
+    ensures { (all : List Given) → Holds m.now all → IfOk result (λ command. command ≡ cat_of all) }
+{
+    let word = value_or_empty(alloc, m, "HEX")?;
+    Ok(Command::Plumb(PlumbWords::Cat { word }))
+}
+
+/// What the verb asks for, with what `clap` holds of the words behind it.
+pub fn asked(alloc: Global, verb: VerbWord, m: &ArgMatches) -> Result<Command, AllocError>
+    ensures { (all : List Given) → Holds m.now all → IfOk result (λ command. command ≡ asked_by verb all) }
+{
+    match verb {
+        VerbWord::Rebase => rebase(alloc, m),
+        VerbWord::CherryPick => cherry_pick(alloc, m),
+        VerbWord::Revert => revert(alloc, m),
+        VerbWord::Init => Ok(Command::Plumb(PlumbWords::Init)),
+        VerbWord::Add => add(alloc, m),
+        VerbWord::Rm => rm(alloc, m),
+        VerbWord::Commit => commit(alloc, m),
+        VerbWord::Status => Ok(Command::Plumb(PlumbWords::Status)),
+        VerbWord::Cat => cat(alloc, m),
+    }
 }

@@ -1,13 +1,17 @@
 //! What is wrong with plain words.
 
-ghost use Rattle.std.specs.Prelude.{◌≡◌, [], ◌∷◌, IfNone, IfOk, IfSome, option_map};
-ghost use Rattle.seq_model.specs.Faults.{bad_value as bad_value_of, fault_of as fault_of_given, first_bad, given_rows, is_acting as is_acting_in, is_bad_empty as is_bad_empty_of, is_bad_number as is_bad_number_of, is_bad_shell as is_bad_shell_of, is_missing as is_missing_in, lacks_one as lacks_one_of, pair_of as pair_of_given, first_two as first_two_of, read_by as read_by_rows};
-ghost use Rattle.seq_words.specs.Rows.{all_given, row_of, rows_of};
-ghost use Rattle.seq_words.specs.Reading.{Reads};
+ghost use Rattle.std.specs.Prelude.{◌≡◌, List, [], ◌∷◌, IfNone, IfOk, IfSome, find, is_some, map, not, option_map};
+ghost use Rattle.seq_model.specs.Faults.{bad_value as bad_value_of, empty_named as empty_named_by, fault_of as fault_of_given, first_bad, given_rows, is_acting as is_acting_in, is_bad_empty as is_bad_empty_of, is_bad_number as is_bad_number_of, is_bad_shell as is_bad_shell_of, is_missing as is_missing_in, is_shell_line as is_shell_line_of, lacks_one as lacks_one_of, pair_of as pair_of_given, parent_number as parent_number_of, first_two as first_two_of, shell_command as shell_command_of};
+ghost use Rattle.seq_model.specs.Given.{Given};
+ghost use Rattle.seq_model.specs.Rows.{Row as ModelRow};
+ghost use Rattle.seq_words.specs.Forms.{HoldsOf};
+ghost use Rattle.seq_words.specs.Told.{Holds};
+ghost use Rattle.seq_words.specs.Rows.{row_of, rows_of};
 
-use crate::given::{Given, given_by, is_given};
-use crate::row::{Row, is_action, is_needed};
+use crate::matches::{action_given, is_given, texts_given};
+use crate::row::{Row, is_needed, row_named};
 use crate::value::{empty_named, is_shell_line, parent_number, shell_command};
+use clap::ArgMatches;
 use seq_base::Bytes;
 use seq_model::{Form, UsageFault};
 use std::alloc::{AllocError, Global};
@@ -36,104 +40,108 @@ pub fn bytes_of(alloc: Global, bytes: &[u8]) -> Result<Bytes, AllocError>
     Ok(Bytes::from_vec(Vec::from_slice(alloc, bytes)?))
 }
 
-fn is_bad_empty(form: Form, value: &[u8]) -> bool
-    ensures { result ≡ is_bad_empty_of form value.now }
+fn bad_empty<'a>(words: &[&'a str]) -> Option<&'a str>
+    ensures { option_map (λ word. word.now) result ≡ find (λ word. not (is_some (empty_named_by word))) (map (λ word. word.now) words.now) }
 {
-    match form {
-        Form::Empty => empty_named(value).is_none(),
-        _ => false,
-    }
-}
-
-fn is_bad_number(form: Form, value: &[u8]) -> bool
-    ensures { result ≡ is_bad_number_of form value.now }
-{
-    match form {
-        Form::Number => parent_number(value).is_none(),
-        _ => false,
-    }
-}
-
-fn is_bad_shell(form: Form, value: &[u8]) -> bool
-    ensures { result ≡ is_bad_shell_of form value.now }
-{
-    match form {
-        Form::Shell => !is_shell_line(shell_command(value)),
-        _ => false,
-    }
-}
-
-fn bad_empty<'a>(all: &[Given<'a>]) -> Option<&'a [u8]>
-    ensures { option_map (λ word. word.now) result ≡ first_bad is_bad_empty_of (all_given all.now) }
-{
-    let mut rest = all;
-    while let [given, after @ ..] = rest {
-        if is_bad_empty(given.row.form, given.value) {
-            return Some(given.value);
+    let mut rest = words;
+    while let [word, after @ ..] = rest {
+        if empty_named(word.as_bytes()).is_none() {
+            return Some(*word);
         }
         rest = after;
     }
     None
 }
 
-fn bad_number<'a>(all: &[Given<'a>]) -> Option<&'a [u8]>
-    ensures { option_map (λ word. word.now) result ≡ first_bad is_bad_number_of (all_given all.now) }
+fn bad_number<'a>(words: &[&'a str]) -> Option<&'a str>
+    ensures { option_map (λ word. word.now) result ≡ find (λ word. not (is_some (parent_number_of word))) (map (λ word. word.now) words.now) }
 {
-    let mut rest = all;
-    while let [given, after @ ..] = rest {
-        if is_bad_number(given.row.form, given.value) {
-            return Some(given.value);
+    let mut rest = words;
+    while let [word, after @ ..] = rest {
+        if parent_number(word.as_bytes()).is_none() {
+            return Some(*word);
         }
         rest = after;
     }
     None
 }
 
-fn bad_shell<'a>(all: &[Given<'a>]) -> Option<&'a [u8]>
-    ensures { option_map (λ word. word.now) result ≡ first_bad is_bad_shell_of (all_given all.now) }
+fn bad_shell<'a>(words: &[&'a str]) -> Option<&'a str>
+    ensures { option_map (λ word. word.now) result
+        ≡ find (λ word. not (is_shell_line_of (shell_command_of word))) (map (λ word. word.now) words.now) }
 {
-    let mut rest = all;
-    while let [given, after @ ..] = rest {
-        if is_bad_shell(given.row.form, given.value) {
-            return Some(given.value);
+    let mut rest = words;
+    while let [word, after @ ..] = rest {
+        if !is_shell_line(shell_command(word.as_bytes())) {
+            return Some(*word);
         }
         rest = after;
     }
     None
+}
+
+#[tactic(auto, using(crate::proofs::Forms::bad_words))]
+fn first_bad_empty<'a>(rows: &[Row], m: &ArgMatches<'a>) -> Option<&'a str>
+    ensures { (all : List Given) → HoldsOf (rows_of rows.now) m.now all → option_map (λ word. word.now) result ≡ first_bad is_bad_empty_of all }
+{
+    let row = row_named(rows, b"--empty")?;
+    if row.form == Form::Empty {
+        bad_empty(texts_given(m, "--empty")?)
+    } else {
+        None
+    }
+}
+
+#[tactic(auto, using(crate::proofs::Forms::bad_words))]
+fn first_bad_number<'a>(rows: &[Row], m: &ArgMatches<'a>) -> Option<&'a str>
+    ensures { (all : List Given) → HoldsOf (rows_of rows.now) m.now all → option_map (λ word. word.now) result ≡ first_bad is_bad_number_of all }
+{
+    let row = row_named(rows, b"-m")?;
+    if row.form == Form::Number {
+        bad_number(texts_given(m, "-m")?)
+    } else {
+        None
+    }
+}
+
+#[tactic(auto, using(crate::proofs::Forms::bad_words))]
+fn first_bad_shell<'a>(rows: &[Row], m: &ArgMatches<'a>) -> Option<&'a str>
+    ensures { (all : List Given) → HoldsOf (rows_of rows.now) m.now all → option_map (λ word. word.now) result ≡ first_bad is_bad_shell_of all }
+{
+    let row = row_named(rows, b"-x")?;
+    if row.form == Form::Shell {
+        bad_shell(texts_given(m, "-x")?)
+    } else {
+        None
+    }
 }
 
 /// The value of which to tell: the first of `--empty`, else of `-m`, else of `-x`.
-fn bad_value<'a>(all: &[Given<'a>]) -> Option<&'a [u8]>
-    ensures { option_map (λ word. word.now) result ≡ bad_value_of (all_given all.now) }
+fn bad_value<'a>(rows: &[Row], m: &ArgMatches<'a>) -> Option<&'a str>
+    ensures { (all : List Given) → HoldsOf (rows_of rows.now) m.now all → option_map (λ word. word.now) result ≡ bad_value_of all }
 {
-    if let Some(word) = bad_empty(all) {
+    if let Some(word) = first_bad_empty(rows, m) {
         return Some(word);
     }
-    if let Some(word) = bad_number(all) {
+    if let Some(word) = first_bad_number(rows, m) {
         return Some(word);
     }
-    bad_shell(all)
+    first_bad_shell(rows, m)
 }
 
-fn is_acting(all: &[Given]) -> bool
-    ensures { result ≡ is_acting_in (all_given all.now) }
+#[tactic(auto, using(crate::proofs::Forms::acting_words))]
+fn is_acting(m: &ArgMatches) -> bool
+    ensures { (rows : List ModelRow) (all : List Given) → HoldsOf rows m.now all → result ≡ is_acting_in all }
 {
-    let mut rest = all;
-    while let [given, after @ ..] = rest {
-        if is_action(given.row.form) {
-            return true;
-        }
-        rest = after;
-    }
-    false
+    action_given(m).is_some()
 }
 
-fn lacks_one(rows: &[Row], all: &[Given]) -> bool
-    ensures { result ≡ lacks_one_of (rows_of rows.now) (all_given all.now) }
+fn lacks_one(rows: &[Row], m: &ArgMatches) -> bool
+    ensures { (all : List Given) → Holds m.now all → result ≡ lacks_one_of (rows_of rows.now) all }
 {
     let mut rest = rows;
     while let [row, after @ ..] = rest {
-        if is_needed(row.form) && !is_given(all, row.name) {
+        if is_needed(row.form) && !is_given(m, row.name) {
             return true;
         }
         rest = after;
@@ -141,20 +149,21 @@ fn lacks_one(rows: &[Row], all: &[Given]) -> bool
     false
 }
 
-fn is_missing(rows: &[Row], all: &[Given]) -> bool
-    ensures { result ≡ is_missing_in (rows_of rows.now) (all_given all.now) }
+fn is_missing(rows: &[Row], m: &ArgMatches) -> bool
+    ensures { (all : List Given) → HoldsOf (rows_of rows.now) m.now all → result ≡ is_missing_in (rows_of rows.now) all }
 {
-    !is_acting(all) && lacks_one(rows, all)
+    !is_acting(m) && lacks_one(rows, m)
 }
 
 /// The first row that is given, and the rows behind it.
-fn first_given<'r>(rows: &'r [Row], all: &[Given]) -> Option<(Row, &'r [Row])>
-    ensures none { IfNone result (given_rows (all_given all.now) (rows_of rows.now) ≡ []) }
-    ensures some { IfSome result (λ x. given_rows (all_given all.now) (rows_of rows.now) ≡ row_of x.0 ∷ given_rows (all_given all.now) (rows_of x.1.now)) }
+fn first_given<'r>(rows: &'r [Row], m: &ArgMatches) -> Option<(Row, &'r [Row])>
+    ensures none { (all : List Given) → Holds m.now all → IfNone result (given_rows all (rows_of rows.now) ≡ []) }
+    ensures some { (all : List Given) → Holds m.now all → IfSome result (λ x.
+        given_rows all (rows_of rows.now) ≡ row_of x.0 ∷ given_rows all (rows_of x.1.now)) }
 {
     let mut rest = rows;
     while let [row, after @ ..] = rest {
-        if is_given(all, row.name) {
+        if is_given(m, row.name) {
             return Some((*row, after));
         }
         rest = after;
@@ -162,65 +171,52 @@ fn first_given<'r>(rows: &'r [Row], all: &[Given]) -> Option<(Row, &'r [Row])>
     None
 }
 
-fn pair(alloc: Global, first: &[u8], second: &[u8]) -> Result<UsageFault, AllocError>
+fn pair(alloc: Global, first: &str, second: &str) -> Result<UsageFault, AllocError>
     ensures { IfOk result (λ fault. fault ≡ UsageFault.Pair first.now second.now) }
 {
-    let first = bytes_of(alloc, first)?;
-    let second = bytes_of(alloc, second)?;
+    let first = bytes_of(alloc, first.as_bytes())?;
+    let second = bytes_of(alloc, second.as_bytes())?;
     Ok(UsageFault::Pair { first, second })
 }
 
 /// The first two rows that are given.
-fn first_two(alloc: Global, rows: &[Row], all: &[Given]) -> Result<Option<UsageFault>, AllocError>
-    ensures { IfOk result (λ fault. fault ≡ first_two_of (given_rows (all_given all.now) (rows_of rows.now))) }
+fn first_two(alloc: Global, rows: &[Row], m: &ArgMatches) -> Result<Option<UsageFault>, AllocError>
+    ensures { (all : List Given) → Holds m.now all → IfOk result (λ fault. fault ≡ first_two_of (given_rows all (rows_of rows.now))) }
 {
-    let Some((first, behind)) = first_given(rows, all) else {
+    let Some((first, behind)) = first_given(rows, m) else {
         return Ok(None);
     };
-    let Some((second, _)) = first_given(behind, all) else {
+    let Some((second, _)) = first_given(behind, m) else {
         return Ok(None);
     };
     Ok(Some(pair(alloc, first.name, second.name)?))
 }
 
-fn pair_of(alloc: Global, rows: &[Row], all: &[Given]) -> Result<Option<UsageFault>, AllocError>
-    ensures { IfOk result (λ fault. fault ≡ pair_of_given (rows_of rows.now) (all_given all.now)) }
+fn pair_of(alloc: Global, rows: &[Row], m: &ArgMatches) -> Result<Option<UsageFault>, AllocError>
+    ensures { (all : List Given) → HoldsOf (rows_of rows.now) m.now all → IfOk result (λ fault. fault ≡ pair_of_given (rows_of rows.now) all) }
 {
-    if is_acting(all) {
-        return first_two(alloc, rows, all);
+    if is_acting(m) {
+        return first_two(alloc, rows, m);
     }
-    if is_given(all, b"--keep-redundant-commits") && is_given(all, b"--empty") {
-        return Ok(Some(pair(alloc, b"--keep-redundant-commits", b"--empty")?));
+    if is_given(m, "--keep-redundant-commits") && is_given(m, "--empty") {
+        return Ok(Some(pair(alloc, "--keep-redundant-commits", "--empty")?));
     }
     Ok(None)
 }
 
-fn fault_of(alloc: Global, rows: &[Row], all: &[Given]) -> Result<Option<UsageFault>, AllocError>
-    ensures { IfOk result (λ fault. fault ≡ fault_of_given (rows_of rows.now) (all_given all.now)) }
-{
-    if let Some(word) = bad_value(all) {
-        let word = bytes_of(alloc, word)?;
-        return Ok(Some(UsageFault::Value { word }));
-    }
-    if is_missing(rows, all) {
-        return Ok(Some(UsageFault::Missing));
-    }
-    pair_of(alloc, rows, all)
-}
-
-/// What the words give, where nothing is wrong with them.
-pub fn read_by<'a>(
+pub fn fault_of(
     alloc: Global,
     rows: &[Row],
-    words: &'a [Bytes],
-) -> Result<Vec<Given<'a>>, BadWords>
-    ensures { Reads (λ all. all_given all.items) result (read_by_rows (rows_of rows.now) words.now) }
+    m: &ArgMatches,
+) -> Result<Option<UsageFault>, AllocError>
+    ensures { (all : List Given) → HoldsOf (rows_of rows.now) m.now all → IfOk result (λ fault. fault ≡ fault_of_given (rows_of rows.now) all) }
 {
-    let Some(all) = given_by(alloc, rows, words)? else {
-        return Err(BadWords::Usage(UsageFault::Parse));
-    };
-    match fault_of(alloc, rows, &all)? {
-        None => Ok(all),
-        Some(fault) => Err(BadWords::Usage(fault)),
+    if let Some(word) = bad_value(rows, m) {
+        let word = bytes_of(alloc, word.as_bytes())?;
+        return Ok(Some(UsageFault::Value { word }));
     }
+    if is_missing(rows, m) {
+        return Ok(Some(UsageFault::Missing));
+    }
+    pair_of(alloc, rows, m)
 }

@@ -3,10 +3,14 @@
 
 mod command;
 mod fault;
-mod given;
+mod matches;
+mod plain;
+mod read;
 mod reading;
 mod row;
+mod told;
 mod value;
+mod verb;
 
 pub use fault::BadWords;
 pub use reading::read_words;

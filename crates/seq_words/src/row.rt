@@ -3,7 +3,7 @@
 ghost use Rattle.std.specs.Prelude.{◌≡◌, map, option_map};
 ghost use Rattle.std.specs.List.{find};
 ghost use Rattle.std.specs.Str.{bytes_eq};
-ghost use Rattle.seq_model.specs.Rows.{is_action as is_action_of, is_argument as is_argument_of, is_flag as is_flag_of, is_needed as is_needed_of, is_repeated as is_repeated_of};
+ghost use Rattle.seq_model.specs.Rows.{is_argument as is_argument_of, is_flag as is_flag_of, is_needed as is_needed_of, is_repeated as is_repeated_of};
 ghost use Rattle.seq_words.specs.Rows.{row_of, rows_of};
 
 use seq_model::Form;
@@ -11,7 +11,7 @@ use seq_model::Form;
 /// One of the words that may stand behind a verb, or the name of its argument.
 #[derive(Clone, Copy)]
 pub struct Row {
-    pub name: &'static [u8],
+    pub name: &'static str,
     pub form: Form,
 }
 
@@ -22,60 +22,60 @@ macro_rules! rows {
 }
 
 pub static REBASE: [Row; 15] = rows![
-    b"--continue" Action,
-    b"--skip" Action,
-    b"--abort" Action,
-    b"--quit" Action,
-    b"--edit-todo" Action,
-    b"-i" Flag,
-    b"--rebase-merges" Flag,
-    b"--onto" Name,
-    b"--no-ff" Flag,
-    b"--empty" Empty,
-    b"--autosquash" Flag,
-    b"--update-refs" Flag,
-    b"-x" Shell,
-    b"--reschedule-failed-exec" Flag,
-    b"UPSTREAM" One,
+    "--continue" Action,
+    "--skip" Action,
+    "--abort" Action,
+    "--quit" Action,
+    "--edit-todo" Action,
+    "-i" Flag,
+    "--rebase-merges" Flag,
+    "--onto" Name,
+    "--no-ff" Flag,
+    "--empty" Empty,
+    "--autosquash" Flag,
+    "--update-refs" Flag,
+    "-x" Shell,
+    "--reschedule-failed-exec" Flag,
+    "UPSTREAM" One,
 ];
 
 pub static CHERRY_PICK: [Row; 12] = rows![
-    b"--continue" Action,
-    b"--skip" Action,
-    b"--abort" Action,
-    b"--quit" Action,
-    b"-e" Flag,
-    b"-x" Flag,
-    b"-m" Number,
-    b"--allow-empty" Flag,
-    b"--keep-redundant-commits" Flag,
-    b"--empty" Empty,
-    b"--no-edit" Flag,
-    b"REV" Many,
+    "--continue" Action,
+    "--skip" Action,
+    "--abort" Action,
+    "--quit" Action,
+    "-e" Flag,
+    "-x" Flag,
+    "-m" Number,
+    "--allow-empty" Flag,
+    "--keep-redundant-commits" Flag,
+    "--empty" Empty,
+    "--no-edit" Flag,
+    "REV" Many,
 ];
 
 pub static REVERT: [Row; 8] = rows![
-    b"--continue" Action,
-    b"--skip" Action,
-    b"--abort" Action,
-    b"--quit" Action,
-    b"-e" Flag,
-    b"-m" Number,
-    b"--no-edit" Flag,
-    b"REV" Many,
+    "--continue" Action,
+    "--skip" Action,
+    "--abort" Action,
+    "--quit" Action,
+    "-e" Flag,
+    "-m" Number,
+    "--no-edit" Flag,
+    "REV" Many,
 ];
 
 pub static PATHS: [Row; 1] = rows![
-    b"PATH" Many,
+    "PATH" Many,
 ];
 
 pub static COMMIT: [Row; 2] = rows![
-    b"--amend" Flag,
-    b"-m" Text,
+    "--amend" Flag,
+    "-m" Text,
 ];
 
 pub static CAT: [Row; 1] = rows![
-    b"HEX" One,
+    "HEX" One,
 ];
 
 pub fn is_flag(form: Form) -> bool
@@ -86,12 +86,6 @@ pub fn is_flag(form: Form) -> bool
         Form::Name | Form::Empty | Form::Number | Form::Shell => false,
         Form::Text | Form::One | Form::Many => false,
     }
-}
-
-pub fn is_action(form: Form) -> bool
-    ensures { result ≡ is_action_of form }
-{
-    form == Form::Action
 }
 
 fn is_argument(form: Form) -> bool
@@ -118,7 +112,7 @@ pub fn row_named(rows: &[Row], name: &[u8]) -> Option<Row>
 {
     let mut rest = rows;
     while let [row, after @ ..] = rest {
-        if row.name == name {
+        if row.name.as_bytes() == name {
             return Some(*row);
         }
         rest = after;

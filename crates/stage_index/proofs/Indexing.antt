@@ -70,6 +70,3 @@ all_of [] zero h = refl
 all_of [] (suc n) h = refl
 all_of (e ∷ es) zero h = absurd (omega arith)
 all_of (e ∷ es) (suc n) h = ap (λ (m : Entries). e ∷ m) (all_of es n (omega arith))
-
-pub indexed_all : (es : Entries) (n : ℕ) → length es ≤ n → indexed (take n es) ≡ indexed es
-indexed_all es n h = ap indexed (all_of es n h)

@@ -5,3 +5,6 @@ pub mod Staging
 pub mod FirstPassing
 pub mod Tracking
 pub mod Indexing
+pub mod Listing
+pub mod Stagings
+pub mod Joining

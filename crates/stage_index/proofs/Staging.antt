@@ -79,9 +79,6 @@ map_ascending (e ∷ es) h = at (is_merged e) refl (map_ascending es h.1)
 with_row : (e : IndexEntry) (es : List IndexEntry) → is_merged e ≡ true → map_of (e ∷ es) ≡ row_of e ∷ map_of es
 with_row e es is = ap (λ (t : Bool). map row_of (cond t (e ∷ filter is_merged es) (filter is_merged es))) is
 
-without_row : (e : IndexEntry) (es : List IndexEntry) → is_merged e ≡ false → map_of (e ∷ es) ≡ map_of es
-without_row e es is = ap (λ (t : Bool). map row_of (cond t (e ∷ filter is_merged es) (filter is_merged es))) is
-
 dropped : {X : Type 0} (xs : List X) (n : ℕ) (x : X) → slice_get xs n ≡ Some x → drop n xs ≡ x ∷ drop (n + 1) xs
 dropped [] n x e = absurd cc
 dropped (y ∷ xs) zero x e = let k : y ≡ x = cc in ap (λ (z : _). z ∷ xs) k
@@ -106,9 +103,6 @@ pub record Walk (index : List IndexEntry) (head : Entries) (rest : List IndexEnt
 
 pub begins : (index : List IndexEntry) (head : Entries) → IsInOrder index → IsPathMap head → Walk index head index 0
 begins index head order map = record { order = order; up = map.ascending; same = refl }
-
-skips : (index : List IndexEntry) (head : Entries) (e : IndexEntry) (es : List IndexEntry) (n : ℕ) → Walk index head (e ∷ es) n → is_merged e ≡ false → Walk index head es n
-skips index head e es n walk is = record { order = walk.order.1; up = walk.up; same = ap (λ (m : Entries). first_difference m (drop n head)) (sym (without_row e es is)) ∙ walk.same }
 
 goes_on : (index : List IndexEntry) (head : Entries) (e : IndexEntry) (es : List IndexEntry) (n : ℕ) (h : List ℕ × Entry) → Walk index head (e ∷ es) n → is_merged e ≡ true → slice_get head n ≡ Some h → lesser_difference (row_of e) h ≡ None
     → Walk index head es (n + 1)
@@ -135,9 +129,6 @@ ends index head e es n walk is past =
     sym (left_first e.path (row_of e).1 (map_of es) [] (rows_after e es is walk.order.0) tt) ∙ ap (λ (m : Entries). first_difference m []) (sym (with_row e es is)) ∙ ap (first_difference (map_of (e ∷ es))) (sym (all_dropped head n past)) ∙ walk.same
 
 -- ---- where the index is a list whose first entry was taken
-
-pub skips_at : (index : List IndexEntry) (head : Entries) (rest : List IndexEntry) (e : IndexEntry) (n : ℕ) → Walk index head rest n → 0 < length rest → e ≡ get_or rest 0 e → is_merged e ≡ false → Walk index head (take (length rest - 1) (drop 1 rest)) n
-skips_at index head rest e n walk some first is = skips index head e _ n (subst (λ (es : List IndexEntry). Walk index head es n) (first_and_others rest e some first) walk) is
 
 pub goes_on_at : (index : List IndexEntry) (head : Entries) (rest : List IndexEntry) (e : IndexEntry) (n : ℕ) (h : List ℕ × Entry) → Walk index head rest n → 0 < length rest → e ≡ get_or rest 0 e → is_merged e ≡ true → slice_get head n ≡ Some h
     → lesser_difference (row_of e) h ≡ None → Walk index head (take (length rest - 1) (drop 1 rest)) (n + 1)

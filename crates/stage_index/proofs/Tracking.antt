@@ -147,6 +147,14 @@ found_at from path n e order lt is found =
     let same : e.path ≡ path = ap (λ (f : IndexEntry). f.path) is ∙ exact_bytes (get_or from n e).path path (found e) in
     found_entry from n e order lt is ∙ ap (entry_at (map_of from)) same
 
+-- an entry that has the path
+
+pub tracked_here : (from : List IndexEntry) (path : List ℕ) (n : ℕ) (e : IndexEntry) → n < length from → e ≡ get_or from n e → bytes_eq e.path path ≡ true → true ≡ is_tracked from path
+tracked_here from path n e lt is same = sym (list_any_at (λ (d : IndexEntry). bytes_eq d.path path) from n e lt (subst (λ (d : IndexEntry). bytes_eq d.path path ≡ true) is same))
+
+pub found_here : (from : List IndexEntry) (path : List ℕ) (n : ℕ) (e : IndexEntry) → IsInOrder from → n < length from → e ≡ get_or from n e → bytes_eq e.path path ≡ true → merged_entry (Some e) ≡ entry_at (map_of from) path
+found_here from path n e order lt is same = found_entry from n e order lt is ∙ ap (entry_at (map_of from)) ((bytes_eq-Decides e.path path).0 same)
+
 pub missing_at : (from : List IndexEntry) (path : List ℕ) (n : ℕ) → IsPartitionPoint (λ d. order_by path d ≡ Less) (λ d. order_by path d ≡ Greater) from n → None ≡ entry_at (map_of from) path
 missing_at from path n parted = sym (untracked_entry from path (not_there from path n parted))
 

@@ -1,5 +1,10 @@
 pub mod Stages
 pub mod Least
+pub mod Unmerged
+pub mod Staged
+pub mod Mapping
 pub mod Changes
+pub mod Clean
 pub mod Walks
 pub mod Switching
+pub mod Conflicts

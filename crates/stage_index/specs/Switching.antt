@@ -47,7 +47,9 @@ is_rewritten from e = not (is_kept from e) && not (is_gitlink e.1.mode)
 
 -- the index lacks the path or it is written, and an untracked file is in its way
 abbrev pub is_obstructed : World → List IndexEntry → List ℕ × Entry → Bool
-is_obstructed w from e = (not (is_tracked from e.0) || is_rewritten from e) && list_any (λ path. is_untracked from path && is_in_way e.0 path) (file.keys w)
+is_obstructed w from e =
+    (not (is_tracked from e.0) || is_rewritten from e)
+    && list_any (λ path. is_untracked from path && is_in_way e.0 path) (file.keys w)
 
 -- the least path in whose way an untracked file is
 unfoldable pub first_obstructed : World → List IndexEntry → Entries → Option (List ℕ)

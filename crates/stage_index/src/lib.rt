@@ -1,10 +1,20 @@
 //! The stages of an index, its map, and what differs from it.
 #![tactic(auto)]
 
+mod conflict;
+mod fault;
 mod lookup;
 mod map;
+mod mapping;
+mod setting;
 mod staged;
+mod unmerged_paths;
 
-pub use lookup::tracked;
+pub use conflict::ConflictFile;
+pub use fault::StageFault;
+pub use lookup::{tracked, tracked_from};
 pub use map::from_map;
+pub use mapping::to_map;
+pub use setting::set_stages;
 pub use staged::staged_path;
+pub use unmerged_paths::unmerged;

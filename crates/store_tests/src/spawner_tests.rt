@@ -4,8 +4,8 @@ ghost use Rattle.std.specs.Prelude.{◌≡◌, IfOk};
 ghost use Rattle.seq_memory.specs.Children.{WriteStorePaths};
 
 use seq_base::Bytes;
-use seq_memory::{Answer, QuietSpawner, QuietStore, Writes};
-use seq_outside::{Exit, Job, Spawner, Store, Words};
+use seq_memory::{Answer, QuietSpawner, QuietStore, ScriptSpawner, Writes};
+use seq_outside::{ChildError, Exit, Job, Spawner, Store, Words};
 use std::alloc::{AllocError, Global};
 use std::test::Fail;
 
@@ -65,5 +65,20 @@ fn children_write_and_are_noted(rt: HostRuntime) -> Result<(), Fail> {
         assert!(rt; job.words.as_slice().iter().all(|w| w.as_slice() == word));
         assert!(rt; job.input.as_slice() == b"in".as_slice());
     }
+    Ok(())
+}
+
+// A child whose call fails with nothing written, and a call past the list, which fails too; both are noted.
+#[test]
+fn scripted_calls_fail(rt: HostRuntime) -> Result<(), Fail> {
+    let alloc = rt.alloc();
+    let mut store = QuietStore::new(alloc, &[])?;
+    let mut spawner = ScriptSpawner::new(answers(alloc)?);
+    let failed = Err(ChildError::Failed);
+    assert!(rt; spawner.run(alloc, &mut store, &job(alloc, b"driver")?) == failed);
+    assert_eq!(rt; store.content().len(), 0);
+    assert!(rt; spawner.run(alloc, &mut store, &job(alloc, b"hook")?) == failed);
+    assert_eq!(rt; spawner.log().len(), 4);
+    assert_eq!(rt; spawner.jobs().len(), 2);
     Ok(())
 }

@@ -220,21 +220,6 @@ pick_spelled rev note w n =
     let kept = kept_note note n in
     built (Pick kind.Pick rev note) (w.word, w.feed, tt) (record { ends = note_written note kept; feed = note_feed note kept }) refl
 
-pub exec_spelled : (command : List ℕ) → (length command == 0 ≡ false) → begins_blank command ≡ false → HasNoFeed command → IsSpelled (Exec command)
-exec_spelled command some begins feed =
-    built (Exec command) tt (record { ends = (some, record { front = 32 ∷ []; blanks = refl; begins = begins; whole = refl }); feed = feed }) refl
-
-pub label_spelled : (name : List ℕ) → IsGoodWord name → is_label name ≡ true → IsSpelled (Label name)
-label_spelled name w fit = built (Label name) (w.word, w.feed, tt) (record { ends = refl; feed = refl }) fit
-
-pub reset_spelled : (name : List ℕ) → IsGoodWord name → IsSpelled (Reset name [])
-reset_spelled name w = built (Reset name []) (w.word, w.feed, tt) (record { ends = note_written [] (record { begins = refl; ends = refl; feed = refl }); feed = refl }) refl
-
-pub merge_spelled : (rev head note : List ℕ) → IsGoodWord rev → IsGoodWord head → IsGoodNote note → not (is_hash head) ≡ true → IsSpelled (Merge (Keep rev) head note)
-merge_spelled rev head note r h n fit =
-    let kept = kept_note note n in
-    built (Merge (Keep rev) head note) ((refl, refl), refl, (r.word, r.feed, (h.word, h.feed, tt))) (record { ends = merge_written note kept; feed = note_feed note kept }) fit
-
 -- ---- lines of what is written
 
 no_comment : (l : Line) → is_comment (text_of l) ≡ false

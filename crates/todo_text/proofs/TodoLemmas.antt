@@ -14,10 +14,6 @@ pub led_by-led_by : (a b : List Line) (r : Result (List Line) TodoFault) → led
 led_by-led_by a b (Ok ls) = ap (λ (x : List Line). Ok x) (sym (append_assoc a b ls))
 led_by-led_by a b (Err fault) = refl
 
-pub led_by-none : (r : Result (List Line) TodoFault) → led_by [] r ≡ r
-led_by-none (Ok ls) = refl
-led_by-none (Err fault) = refl
-
 module _ (earlier : Bool) (n : ℕ) (text : List ℕ) (texts : List (List ℕ)) where
   pub todo_comment : is_comment text ≡ true → todo_of earlier n (text ∷ texts) ≡ todo_of earlier (n + 1) texts
   unfolding todo_of

@@ -22,4 +22,7 @@ is_file_mode Folder = false
 
 -- what a merge of three takes: what both sides have, else the side that alone changed the base
 abbrev pub agreed : {X : Type 0} → (X → X → Bool) → X → X → X → Option X
-agreed same base ours theirs = if same ours theirs then Some ours else if same base ours then Some theirs else if same base theirs then Some ours else None
+agreed same base ours theirs =
+    if same ours theirs then Some ours
+    else if same base ours then Some theirs
+    else if same base theirs then Some ours else None

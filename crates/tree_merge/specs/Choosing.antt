@@ -38,7 +38,8 @@ may_be_file (Some e) = is_file_mode e.mode
 abbrev pub changed : Option Entry → Option Entry → Option Entry → Choice
 changed base None theirs = Conflict theirs
 changed base (Some ours) None = Conflict (Some ours)
-changed base (Some ours) (Some theirs) = if may_be_file base && (is_file_mode ours.mode && is_file_mode theirs.mode) then merged_files base ours theirs else Conflict (Some ours)
+changed base (Some ours) (Some theirs) =
+    if may_be_file base && (is_file_mode ours.mode && is_file_mode theirs.mode) then merged_files base ours theirs else Conflict (Some ours)
 
 -- what both sides have is taken, else what one side alone changed, else files are merged
 abbrev pub choice : Option Entry → Option Entry → Option Entry → Choice

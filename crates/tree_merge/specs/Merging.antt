@@ -92,7 +92,8 @@ later_ends (end ∷ ends) = ends
 -- a path that has no driver
 abbrev pub fates : {Exit : Type 0} → List Planned → List (Option (DriverEnd Exit)) → List (Planned × Fate Exit)
 fates [] ends = []
-fates (row ∷ rows) ends = if wants_end row then (row, fate row (first_end ends)) ∷ fates rows (later_ends ends) else (row, fate row None) ∷ fates rows ends
+fates (row ∷ rows) ends =
+    if wants_end row then (row, fate row (first_end ends)) ∷ fates rows (later_ends ends) else (row, fate row None) ∷ fates rows ends
 
 abbrev pub is_conflict : {Exit : Type 0} → Fate Exit → Bool
 is_conflict (takes entry) = false
@@ -134,7 +135,9 @@ row_of_path rows path = find (λ row. bytes_eq row.0.path path) rows
 
 -- the index after a merge. A path without a row has three equal entries, and stays
 abbrev pub index_of : {Exit : Type 0} → (List ℕ → List ℕ) → Entries → Entries → Entries → List (Planned × Fate Exit) → List Staged
-index_of blob_id base ours theirs rows = flat_map (λ path. option_map_or (λ row. staged blob_id row.0 row.1) (row_of_path rows path) (at_stage 0 path (entry_at ours path))) (paths_of (base ++ ours ++ theirs))
+index_of blob_id base ours theirs rows =
+    flat_map (λ path. option_map_or (λ row. staged blob_id row.0 row.1) (row_of_path rows path) (at_stage 0 path (entry_at ours path)))
+    (paths_of (base ++ ours ++ theirs))
 
 -- the texts of the conflicting paths that are written
 abbrev pub conflict_texts : {Exit : Type 0} → List (Planned × Fate Exit) → List (List ℕ × ConflictText)
@@ -151,7 +154,9 @@ first_broken (row ∷ rows) = option_map_or (λ exit. Some (row.0.path, exit)) (
 
 -- a merge without a failed driver
 abbrev pub unbroken : {Exit : Type 0} → (List ℕ → List ℕ) → Entries → Entries → Entries → List (Planned × Fate Exit) → Merge Exit
-unbroken blob_id base ours theirs rows = if list_any (λ row. is_conflict row.1) rows then conflicting (index_of blob_id base ours theirs rows) (conflict_texts rows) else whole (map (λ s. (s.path, s.entry)) (index_of blob_id base ours theirs rows))
+unbroken blob_id base ours theirs rows =
+    if list_any (λ row. is_conflict row.1) rows then conflicting (index_of blob_id base ours theirs rows) (conflict_texts rows)
+    else whole (map (λ s. (s.path, s.entry)) (index_of blob_id base ours theirs rows))
 
 abbrev pub merge_with : {Exit : Type 0} → (List ℕ → List ℕ) → Entries → Entries → Entries → List (Planned × Fate Exit) → Merge Exit
 merge_with blob_id base ours theirs rows = option_map_or (λ at. broken at.0 at.1) (first_broken rows) (unbroken blob_id base ours theirs rows)

@@ -33,7 +33,15 @@ is_present (Conflict file) = is_some file
 
 -- a path with three entries and what to make of them, as long as nothing clashes with it
 abbrev pub row_of : List ℕ → Option Entry → Option Entry → Option Entry → Planned
-row_of path base ours theirs = record { path = path; base = base; ours = ours; theirs = theirs; choice = choice base ours theirs; clash = false; written = is_present (choice base ours theirs) }
+row_of path base ours theirs = record {
+  path = path;
+  base = base;
+  ours = ours;
+  theirs = theirs;
+  choice = choice base ours theirs;
+  clash = false;
+  written = is_present (choice base ours theirs);
+}
 
 abbrev pub row_at : Entries → Entries → Entries → List ℕ → Planned
 row_at base ours theirs path = row_of path (entry_at base path) (entry_at ours path) (entry_at theirs path)

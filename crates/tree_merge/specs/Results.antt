@@ -22,7 +22,8 @@ taken_at base ours theirs path = taken (choice (entry_at base path) (entry_at ou
 
 -- the paths at which an entry is taken, in order, with what is taken
 abbrev pub result_of : Entries → Entries → Entries → Entries
-result_of base ours theirs = filter_map (λ path. option_map (λ entry. (path, entry)) (taken_at base ours theirs path)) (paths_of (base ++ ours ++ theirs))
+result_of base ours theirs =
+    filter_map (λ path. option_map (λ entry. (path, entry)) (taken_at base ours theirs path)) (paths_of (base ++ ours ++ theirs))
 
 -- an entry, or none, is taken
 abbrev pub is_taken : Choice → Bool

@@ -32,7 +32,8 @@ fn mark_below(rows: &[Planned], i: usize, lowers: &mut [bool]) -> bool
     requires marks { length lowers.old ≡ length rows.now }
     requires order { AreInOrder rows.now }
     ensures upper { (d : PlannedValue) → result ≡ is_upper rows.now (slice_index_or rows.now i d) }
-    ensures lower { (k : ℕ) (d : PlannedValue) → k < length rows.now → slice_index_or lowers.new k false ≡ slice_index_or lowers.old k false || is_under (slice_index_or rows.now i d) (slice_index_or rows.now k d) }
+    ensures lower { (k : ℕ) (d : PlannedValue) → k < length rows.now → slice_index_or lowers.new k false
+        ≡ slice_index_or lowers.old k false || is_under (slice_index_or rows.now i d) (slice_index_or rows.now k d) }
 {
     let upper = &rows[i];
     let mut found = false;

@@ -4,3 +4,8 @@ pub mod ReadBlobs
 pub mod SwitchLists
 pub mod Making
 pub mod Unrelated
+pub mod Conflicting
+pub mod Resetting
+pub mod FirstWrites
+pub mod ResetFronts
+pub mod Outside

@@ -1,5 +1,5 @@
 -- Paths that neither an index nor a map has, when files are switched from the one to the other.
-use Rattle.std.proofs.Common.{◌≡◌, ◌⊎◌, inl, inr, Bool, true, false, cond, List, [], ◌∷◌, ◌++◌, take, Some, None, Result, Ok, Err, refl, sym, ap, subst, ◌∙◌}
+use Rattle.std.proofs.Common.{◌≡◌, inl, inr, Bool, true, false, cond, List, [], ◌∷◌, ◌++◌, take, Some, None, Result, Ok, Err, refl, sym, ap, ◌∙◌}
 use Rattle.std.specs.Prelude.{codes, filter, map}
 use Rattle.std.specs.FinMap as file
 use Rattle.std.specs.Ordering.{eq_by_cmp}
@@ -15,7 +15,7 @@ use Rattle.seq_outside.specs.Halts.{◌>>=◌}
 use Rattle.seq_outside.specs.declared.lack.Lack.{Lack}
 use Rattle.seq_outside.specs.declared.write.Write.{Write}
 use Rattle.seq_outside.specs.declared.write.Write.TheVariants.{Put, Remove}
-use Rattle.seq_outside.specs.Writes.{IsFront, is_at, is_written}
+use Rattle.seq_outside.specs.Writes.{is_written}
 use Rattle.seq_outside.proofs.Drafts.{written_elsewhere}
 use Rattle.seq_outside.proofs.ObjectsFirst.{named-append, unwritten_taken}
 use Rattle.index_file.specs.declared.entry.IndexEntry.{IndexEntry}

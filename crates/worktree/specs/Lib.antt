@@ -3,3 +3,7 @@ pub mod Blobs
 pub mod Own
 pub mod Writes
 pub mod Switches
+pub mod Conflicts
+pub mod ConflictTurns
+pub mod Resets
+pub mod ResetTurns

@@ -110,7 +110,7 @@ fn stands_below<S: Store>(
 }
 
 /// Whether an untracked file is in the way of the path.
-fn has_obstacle<S: Store>(
+pub(crate) fn has_obstacle<S: Store>(
     alloc: Global,
     store: &mut S,
     from: &[IndexEntry],
@@ -136,13 +136,14 @@ fn is_obstructed<S: Store>(
     alloc: Global,
     store: &mut S,
     from: &[IndexEntry],
+    place: &mut usize,
     entry: &IndexEntry,
 ) -> Result<bool, StoreError>
     requires { IsInOrder from.now }
     ensures told { S.told → IfOk result (λ is. is ≡ is_obstructed_in (S.seen store.old).content from.now (row_of entry.now)) }
     ensures reads { Reads S.told store_cause result (S.seen store.old) (S.seen store.new) }
 {
-    if is_tracked(from, entry.path.bytes()) && !is_rewritten(from, entry) {
+    if is_tracked(from, place, entry.path.bytes()) && !is_rewritten(from, place, entry) {
         return Ok(false);
     }
     has_obstacle(alloc, store, from, &entry.path)
@@ -160,9 +161,10 @@ pub(crate) fn first_obstructed<S: Store>(
     ensures found { S.told → IfOk result (λ found. found ≡ first_obstructed_in (S.seen store.old).content from.now (map_list row_of to.now)) }
     ensures reads { Reads S.told store_cause result (S.seen store.old) (S.seen store.new) }
 {
+    let mut place = 0;
     let mut rest = to;
     while let [entry, after @ ..] = rest {
-        if is_obstructed(alloc, store, from, entry)? {
+        if is_obstructed(alloc, store, from, &mut place, entry)? {
             return Ok(Some(entry.path.copy()?));
         }
         rest = after;

@@ -11,7 +11,7 @@ ghost use Rattle.stage_index.specs.Switching.{is_tracked as is_tracked_in, is_un
 
 use index_file::IndexEntry;
 use seq_base::{Mode, lies_below};
-use stage_index::tracked;
+use stage_index::{tracked, tracked_from};
 
 pub(crate) fn is_gitlink(mode: Mode) -> bool
     ensures { result ≡ is_gitlink_mode mode }
@@ -31,30 +31,31 @@ fn is_same(kept: &IndexEntry, entry: &IndexEntry) -> bool
     kept.mode.number() == entry.mode.number() && kept.id.bytes() == entry.id.bytes()
 }
 
-/// Whether the index has the same at the entry's path.
-fn is_kept(from: &[IndexEntry], entry: &IndexEntry) -> bool
+/// Whether the index has the same at the entry's path, of entries that are asked for in their order.
+fn is_kept(from: &[IndexEntry], place: &mut usize, entry: &IndexEntry) -> bool
     requires { IsInOrder from.now }
     ensures { result ≡ is_kept_in from.now (row_of entry.now) }
 {
-    match tracked(from, entry.path.bytes()) {
+    match tracked_from(from, place, entry.path.bytes()) {
         Some(kept) => is_same(kept, entry),
         None => false,
     }
 }
 
-/// Whether the blob of the entry is written.
-pub(crate) fn is_rewritten(from: &[IndexEntry], entry: &IndexEntry) -> bool
+/// Whether the blob of the entry is written, of entries that are asked for in their order.
+pub(crate) fn is_rewritten(from: &[IndexEntry], place: &mut usize, entry: &IndexEntry) -> bool
     requires { IsInOrder from.now }
     ensures { result ≡ is_rewritten_in from.now (row_of entry.now) }
 {
-    !is_kept(from, entry) && !is_gitlink(entry.mode)
+    !is_kept(from, place, entry) && !is_gitlink(entry.mode)
 }
 
-pub(crate) fn is_tracked(from: &[IndexEntry], path: &[u8]) -> bool
+/// Whether the index has the path, of paths that are asked for in their order.
+pub(crate) fn is_tracked(from: &[IndexEntry], place: &mut usize, path: &[u8]) -> bool
     requires { IsInOrder from.now }
     ensures { result ≡ is_tracked_in from.now path.now }
 {
-    tracked(from, path).is_some()
+    tracked_from(from, place, path).is_some()
 }
 
 fn has_submodule(from: &[IndexEntry], path: &[u8]) -> bool
@@ -83,7 +84,7 @@ fn tracks_file(from: &[IndexEntry], path: &[u8]) -> bool
     requires { IsInOrder from.now }
     ensures { result ≡ tracks_file_in from.now path.now }
 {
-    is_tracked(from, path) && !is_submodule_at(from, path)
+    tracked(from, path).is_some() && !is_submodule_at(from, path)
 }
 
 /// Whether a file that stands there lies outside `.git`, and the index does not track it.

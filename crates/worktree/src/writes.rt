@@ -19,34 +19,34 @@ use crate::rewritten::{is_rewritten, is_submodule_at};
 use index_file::{IndexEntry, index_text};
 use seq_base::{Bytes, Path, PathMap};
 use seq_outside::{Halt, Lack, Store, Write};
-use stage_index::{from_map, tracked};
+use stage_index::{from_map, tracked_from};
 use std::alloc::{AllocError, Global};
 
-fn bytes_of(alloc: Global, path: &Path) -> Result<Bytes, AllocError>
+pub(crate) fn bytes_of(alloc: Global, path: &Path) -> Result<Bytes, AllocError>
     ensures same { IfOk result (λ bytes. bytes ≡ path.now) }
     ensures path { IfOk result (λ bytes. IsPath bytes) }
 {
     Ok(Bytes::from_vec(Vec::from_slice(alloc, path.bytes())?))
 }
 
-/// Whether the index has no merged entry at the path.
-fn lacks(index: &[IndexEntry], path: &[u8]) -> bool
+/// Whether the index has no merged entry at the path, of paths that are asked for in their order.
+pub(crate) fn lacks(index: &[IndexEntry], place: &mut usize, path: &[u8]) -> bool
     requires { IsInOrder index.now }
     ensures { result ≡ is_none (entry_at (map_of index.now) path.now) }
 {
-    match tracked(index, path) {
+    match tracked_from(index, place, path) {
         Some(entry) => entry.stage != 0,
         None => true,
     }
 }
 
 /// Whether the entry's path is tracked no longer, and is no submodule's.
-fn is_dropped(from: &[IndexEntry], entry: &IndexEntry, to: &[IndexEntry]) -> bool
+fn is_dropped(from: &[IndexEntry], entry: &IndexEntry, to: &[IndexEntry], place: &mut usize) -> bool
     requires from { IsInOrder from.now }
     requires to { IsInOrder to.now }
     ensures { result ≡ is_dropped_from from.now (map_of to.now) entry.now }
 {
-    lacks(to, entry.path.bytes()) && !is_submodule_at(from, entry.path.bytes())
+    lacks(to, place, entry.path.bytes()) && !is_submodule_at(from, entry.path.bytes())
 }
 
 /// Removes the entry's path, if it is tracked no longer.
@@ -56,6 +56,7 @@ fn push_removal(
     from: &[IndexEntry],
     entry: &IndexEntry,
     to: &[IndexEntry],
+    place: &mut usize,
     writes: &mut Vec<Write>,
 ) -> Result<(), AllocError>
     requires from { IsInOrder from.now }
@@ -63,7 +64,7 @@ fn push_removal(
     ensures pushed { OnOk result (writes.new.items ≡ writes.old.items ++ removals_of from.now (map_of to.now) (entry.now ∷ [])) }
     ensures own { OnOk result (AreOwn writes.old.items → AreOwn writes.new.items) }
 {
-    if !is_dropped(from, entry, to) {
+    if !is_dropped(from, entry, to, place) {
         return Ok(());
     }
     let path = bytes_of(alloc, &entry.path)?;
@@ -71,7 +72,7 @@ fn push_removal(
     Ok(())
 }
 
-fn push_removals(
+pub(crate) fn push_removals(
     alloc: Global,
     from: &[IndexEntry],
     to: &[IndexEntry],
@@ -82,15 +83,16 @@ fn push_removals(
     ensures pushed { OnOk result (writes.new.items ≡ writes.old.items ++ removals from.now (map_of to.now)) }
     ensures own { OnOk result (AreOwn writes.old.items → AreOwn writes.new.items) }
 {
+    let mut place = 0;
     let mut rest = from;
     while let [entry, after @ ..] = rest {
-        push_removal(alloc, from, entry, to, writes)?;
+        push_removal(alloc, from, entry, to, &mut place, writes)?;
         rest = after;
     }
     Ok(())
 }
 
-fn index_write(alloc: Global, to: &[IndexEntry]) -> Result<Write, AllocError>
+pub(crate) fn index_write(alloc: Global, to: &[IndexEntry]) -> Result<Write, AllocError>
     requires { IsIndex to.now }
     ensures { IfOk result (λ write. write ≡ Write.Put (codes ".git/index") (text_of_index to.now)) }
 {
@@ -105,15 +107,17 @@ fn push_blob<S: Store>(
     alloc: Global,
     store: &mut S,
     from: &[IndexEntry],
+    place: &mut usize,
     entry: &IndexEntry,
     writes: &mut Vec<Write>,
 ) -> Result<(), Halt<Lack>>
     requires { IsInOrder from.now }
-    ensures appends { S.told → Appends result writes.old.items writes.new.items (rewritten (S.seen store.old).content from.now (row_of entry.now ∷ [])) }
+    ensures appends { S.told → Appends result writes.old.items writes.new.items
+        (rewritten (S.seen store.old).content from.now (row_of entry.now ∷ [])) }
     ensures own { OnOk result (AreOwn writes.old.items → AreOwn writes.new.items) }
     ensures reads { Reads S.told halt_cause result (S.seen store.old) (S.seen store.new) }
 {
-    if !is_rewritten(from, entry) {
+    if !is_rewritten(from, place, entry) {
         return Ok(());
     }
     let bytes = read_blob(alloc, store, entry.id)?;
@@ -135,9 +139,10 @@ fn push_blobs<S: Store>(
     ensures own { OnOk result (AreOwn writes.old.items → AreOwn writes.new.items) }
     ensures reads { Reads S.told halt_cause result (S.seen store.old) (S.seen store.new) }
 {
+    let mut place = 0;
     let mut rest = to;
     while let [entry, after @ ..] = rest {
-        push_blob(alloc, store, from, entry, writes)?;
+        push_blob(alloc, store, from, &mut place, entry, writes)?;
         rest = after;
     }
     Ok(())

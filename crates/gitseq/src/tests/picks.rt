@@ -85,11 +85,7 @@ fn what_is_not_taken_yet_is_not_built(rt: HostRuntime) -> Result<(), Fail> {
             b"063e68e4d0d70bddbb9e204763cae96183b574ca\n",
         ),
         (".git/config", b"[core]\n"),
-        (".git/packed-refs", b""),
         (".git/hooks/pre-commit", b""),
-        (".git/HEAD", b"d121e10699140c3fa862544172d391513c3337cf\n"),
-        (".git/HEAD", b"ref: refs/heads/a/b\n"),
-        (".git/refs/heads/master", b"d121\n"),
     ] {
         assert!(rt;
             prints(
@@ -103,12 +99,12 @@ fn what_is_not_taken_yet_is_not_built(rt: HostRuntime) -> Result<(), Fail> {
     Ok(())
 }
 
-// A commit is named by forty digits, and has one parent. Each is told before a changed file.
+// A commit that is picked has one parent, and whoever commits a name and an email. Each is told before a changed file.
 #[test]
-fn words_that_are_not_taken_yet_are_not_built(rt: HostRuntime) -> Result<(), Fail> {
+fn commits_and_committers_that_are_not_taken_yet_are_not_built(
+    rt: HostRuntime,
+) -> Result<(), Fail> {
     let alloc = rt.alloc();
-    let long = "063e68e4d0d70bddbb9e204763cae96183b574ca0";
-    assert!(rt; prints(alloc, &[CHANGED], long, "refused not-built\n")?);
     assert!(rt; prints(alloc, &[CHANGED], BASE, "refused not-built\n")?);
     assert!(rt; prints_for(alloc, ("Sam", ""), &[CHANGED], ADD_B, "refused not-built\n")?);
     assert!(rt;
@@ -123,7 +119,33 @@ fn words_that_are_not_taken_yet_are_not_built(rt: HostRuntime) -> Result<(), Fai
     Ok(())
 }
 
-// The ids are those of `git hash-object`: the commit and its tree, the blob `hello`, and 40 digits that name nothing.
+// `git rev-parse --verify WORD^{commit}` takes none of these words. Each is told whole, before a HEAD without a commit and a changed file.
+#[test]
+fn words_that_name_no_commit_are_refused(rt: HostRuntime) -> Result<(), Fail> {
+    let alloc = rt.alloc();
+    let unborn = (".git/HEAD", b"ref: refs/heads/none\n".as_slice());
+    let bad = (".git/refs/heads/bad", b"d121\n".as_slice());
+    for (word, printed) in [
+        ("abc", "refused no-such-rev abc\n"),
+        ("nosuch", "refused no-such-rev nosuch\n"),
+        ("bad", "refused no-such-rev bad\n"),
+        (
+            "063e68e4d0d70bddbb9e204763cae96183b574ca0",
+            "refused no-such-rev 063e68e4d0d70bddbb9e204763cae96183b574ca0\n",
+        ),
+        ("master~2", "refused no-parent master~2\n"),
+        ("master^2", "refused no-parent master^2\n"),
+        ("master@{0}", "refused no-log-entry master@{0}\n"),
+        ("master..nosuch", "refused bad-rev-form master..nosuch\n"),
+        ("", "refused bad-rev-form \n"),
+        ("ce013625", "refused not-a-commit ce013625\n"),
+    ] {
+        assert!(rt; prints(alloc, &[unborn, bad, CHANGED], word, printed)?);
+    }
+    Ok(())
+}
+
+// The ids are those of `git hash-object`: the commit and its tree, and 40 digits that name nothing.
 #[test]
 fn bad_objects_are_named(rt: HostRuntime) -> Result<(), Fail> {
     let alloc = rt.alloc();
@@ -134,15 +156,6 @@ fn bad_objects_are_named(rt: HostRuntime) -> Result<(), Fail> {
             &[],
             missing,
             "refused bad-object 1234567890123456789012345678901234567890\n"
-        )?
-    );
-    let blob = "ce013625030ba8dba906f756967f9e9ca394464a";
-    assert!(rt;
-        prints(
-            alloc,
-            &[],
-            blob,
-            "refused bad-object ce013625030ba8dba906f756967f9e9ca394464a\n"
         )?
     );
     let tree = ".git/objects/2f/3f2bfbfdd99b445e3e70f6ce20c241282d900d";
@@ -178,6 +191,43 @@ fn changes_and_conflicts_are_refused(rt: HostRuntime) -> Result<(), Fail> {
     Ok(())
 }
 
+/// The packed refs that git 2.39.5 writes of a branch at `add c`.
+const PACKED: (&str, &[u8]) = (
+    ".git/packed-refs",
+    b"# pack-refs with: peeled fully-peeled sorted \nd121e10699140c3fa862544172d391513c3337cf refs/heads/topic/one\n",
+);
+
+const BAD_PACKED: (&str, &[u8]) = (
+    ".git/packed-refs",
+    b"d121e10699140c3fa862544172d391513c3337cf refs/heads/topic/one\nx\n",
+);
+
+// HEAD is told before the packed refs, these before the index, and that before a changed file.
+#[test]
+fn heads_and_refs_that_are_bad_are_refused(rt: HostRuntime) -> Result<(), Fail> {
+    let alloc = rt.alloc();
+    let bad_index = (".git/index", b"DIRC".as_slice());
+    for (path, bytes) in [
+        (".git/HEAD", b"d121\n".as_slice()),
+        (".git/HEAD", b"d121e10699140c3fa862544172d391513c3337cf"),
+        (".git/HEAD", b"ref: refs/heads/a..b\n"),
+        (".git/HEAD", b"ref: HEAD\n"),
+        (".git/refs/heads/master", b"d121\n"),
+        (".git/refs/heads/master", b"ref: refs/heads/master\n"),
+    ] {
+        let changes = [(path, bytes), BAD_PACKED, bad_index, CHANGED];
+        assert!(rt; prints(alloc, &changes, ADD_B, "refused bad-head\n")?);
+    }
+    let unborn = (".git/HEAD", b"ref: refs/heads/none\n".as_slice());
+    let refused = "refused bad-refs 2\n";
+    assert!(rt; prints(alloc, &[BAD_PACKED, bad_index, CHANGED], ADD_B, refused)?);
+    assert!(rt; prints(alloc, &[unborn, BAD_PACKED, bad_index], ADD_B, refused)?);
+    let refused = "refused bad-index count\n";
+    assert!(rt; prints(alloc, &[unborn, bad_index, CHANGED], ADD_B, refused)?);
+    assert!(rt; prints(alloc, &[unborn, CHANGED], ADD_B, "refused unborn-head\n")?);
+    Ok(())
+}
+
 #[test]
 fn an_index_of_another_version_is_bad(rt: HostRuntime) -> Result<(), Fail> {
     let alloc = rt.alloc();
@@ -192,14 +242,18 @@ fn has(store: &QuietStore, path: &str, bytes: &[u8]) -> bool {
         && file.1.as_slice() == bytes)
 }
 
-/// Whether the store has what `git cherry-pick` leaves of `add b` on `add c`: the tree, the commit, the files and the logs.
+const PICKED: &[u8] = b"6f78c7f745e65aa003201d6ab87f9d215ba50ed2\n";
+
+/// The line that `git cherry-pick` of `add b` on `add c` leaves in a log.
+const LINE: &[u8] =
+    b"d121e10699140c3fa862544172d391513c3337cf 6f78c7f745e65aa003201d6ab87f9d215ba50ed2 Sam <sam@x> 2000 +0000\tcherry-pick: add b\n";
+
+/// Whether the store has what `git cherry-pick` leaves of `add b` on `add c` beside refs: the tree, the commit and the files.
 fn is_picked(store: &QuietStore) -> bool {
     let tree =
         b"tree 87\0100644 a\0\xce\x016%\x03\x0b\xa8\xdb\xa9\x06\xf7V\x96\x7f\x9e\x9c\xa3\x94FJ100644 b\0\xe6\x9d\xe2\x9b\xb2\xd1\xd6CK\x8b)\xaewZ\xd8\xc2\xe4\x8cS\x91100644 c\0\xce\x016%\x03\x0b\xa8\xdb\xa9\x06\xf7V\x96\x7f\x9e\x9c\xa3\x94FJ";
     let commit =
         b"commit 164\0tree 228c1e7fc028b51a61ed40dbc7546c6a4c9a75e6\nparent d121e10699140c3fa862544172d391513c3337cf\nauthor Ann <ann@x> 1000 +0000\ncommitter Sam <sam@x> 2000 +0000\n\nadd b\n";
-    let line =
-        b"d121e10699140c3fa862544172d391513c3337cf 6f78c7f745e65aa003201d6ab87f9d215ba50ed2 Sam <sam@x> 2000 +0000\tcherry-pick: add b\n";
     has(
         store,
         ".git/objects/22/8c1e7fc028b51a61ed40dbc7546c6a4c9a75e6",
@@ -208,13 +262,7 @@ fn is_picked(store: &QuietStore) -> bool {
         store,
         ".git/objects/6f/78c7f745e65aa003201d6ab87f9d215ba50ed2",
         commit,
-    ) && has(
-        store,
-        ".git/refs/heads/master",
-        b"6f78c7f745e65aa003201d6ab87f9d215ba50ed2\n",
-    ) && has(store, ".git/logs/refs/heads/master", line)
-        && has(store, ".git/logs/HEAD", line)
-        && has(store, ".git/index", PICKED_INDEX)
+    ) && has(store, ".git/index", PICKED_INDEX)
         && has(store, ".git/COMMIT_EDITMSG", b"add b\n")
         && has(store, "b", b"")
 }
@@ -243,8 +291,75 @@ fn a_clean_pick_is_done(rt: HostRuntime) -> Result<(), Fail> {
     assert_eq!(rt; pick(alloc, ADD_B, &mut store, &mut out)?, 0);
     assert!(rt; out.bytes() == b"done 6f78c7f745e65aa003201d6ab87f9d215ba50ed2\n".as_slice());
     assert!(rt; is_picked(&store));
+    assert!(rt; has(&store, ".git/refs/heads/master", PICKED));
+    assert!(rt; has(&store, ".git/logs/refs/heads/master", LINE));
+    assert!(rt; has(&store, ".git/logs/HEAD", LINE));
     // Six files are new; the branch and the index are written anew.
     assert_eq!(rt; store.content().len(), before.len() + 6);
+    Ok(())
+}
+
+// By the first digits of its id, by a branch, and by the branch's log.
+#[test]
+fn a_commit_is_picked_by_its_names(rt: HostRuntime) -> Result<(), Fail> {
+    let alloc = rt.alloc();
+    let side = (
+        ".git/refs/heads/side",
+        b"063e68e4d0d70bddbb9e204763cae96183b574ca\n".as_slice(),
+    );
+    let log = (
+        ".git/logs/refs/heads/side",
+        b"0000000000000000000000000000000000000000 063e68e4d0d70bddbb9e204763cae96183b574ca Ann <ann@x> 1000 +0000\tbranch: Created\n".as_slice(),
+    );
+    for word in [
+        "063e68e",
+        "side",
+        "heads/side",
+        "refs/heads/side",
+        "side@{0}",
+        "side~0",
+    ] {
+        let mut store = store(alloc, &files(alloc, &[side, log])?)?;
+        let mut out = QuietSink::new(alloc)?;
+        assert_eq!(rt; pick(alloc, word, &mut store, &mut out)?, 0);
+        assert!(rt; is_picked(&store));
+    }
+    Ok(())
+}
+
+// HEAD itself moves, and no branch.
+#[test]
+fn a_detached_head_is_moved(rt: HostRuntime) -> Result<(), Fail> {
+    let alloc = rt.alloc();
+    let tip = b"d121e10699140c3fa862544172d391513c3337cf\n".as_slice();
+    let before = files(alloc, &[(".git/HEAD", tip)])?;
+    let mut store = store(alloc, &before)?;
+    let mut out = QuietSink::new(alloc)?;
+    assert_eq!(rt; pick(alloc, ADD_B, &mut store, &mut out)?, 0);
+    assert!(rt; is_picked(&store));
+    assert!(rt; has(&store, ".git/HEAD", PICKED));
+    assert!(rt; has(&store, ".git/logs/HEAD", LINE));
+    assert!(rt; has(&store, ".git/refs/heads/master", tip));
+    assert_eq!(rt; store.content().len(), before.len() + 5);
+    Ok(())
+}
+
+// A branch of two parts that is packed gets a file of its own, and the packed refs stay.
+#[test]
+fn a_packed_branch_in_a_folder_of_branches_is_moved(rt: HostRuntime) -> Result<(), Fail> {
+    let alloc = rt.alloc();
+    let on = (".git/HEAD", b"ref: refs/heads/topic/one\n".as_slice());
+    let before = files(alloc, &[on, PACKED])?;
+    let mut store = store(alloc, &before)?;
+    let mut out = QuietSink::new(alloc)?;
+    assert_eq!(rt; pick(alloc, ADD_B, &mut store, &mut out)?, 0);
+    assert!(rt; is_picked(&store));
+    assert!(rt; has(&store, ".git/HEAD", on.1));
+    assert!(rt; has(&store, PACKED.0, PACKED.1));
+    assert!(rt; has(&store, ".git/refs/heads/topic/one", PICKED));
+    assert!(rt; has(&store, ".git/logs/refs/heads/topic/one", LINE));
+    assert!(rt; has(&store, ".git/logs/HEAD", LINE));
+    assert_eq!(rt; store.content().len(), before.len() + 7);
     Ok(())
 }
 

@@ -1,5 +1,5 @@
 use Rattle.std.proofs.Common.{List, [], ◌∷◌, ◌++◌, ℕ, sym, ap, subst, ◌∙◌}
-use Rattle.seq_base.specs.Paths.{IsPathFaultOrMemory}
+use Rattle.seq_base.specs.Paths.{IsPath, IsPathFaultOrMemory}
 use Rattle.object_text.specs.TreeMaps.{below, is_path_text}
 use Rattle.object_text.specs.declared.tree.TreeEntry.{TreeEntry}
 use Rattle.path_trees.proofs.Paths.{HasTaken, one_taken, path_passes, rows_fail}
@@ -7,15 +7,14 @@ use Rattle.path_trees.proofs.rows.rows_of.Goals as goal
 
 pub returns-in-Err : goal.returns-in-Err
 returns-in-Err c =
-    let path = c.deref.ensures.value ∙ (c.in_ok-bytes.ensures ∙ ap (below c.args.folder.now) c.as_slice.ensures) in
     let taken = subst (λ (es : List TreeEntry). HasTaken c.args.folder.now c.args.entries.items es c.rows.rows.items) c.in-Some.ensures.items c.rows.invariant in
-    let fault = subst (λ (p : List ℕ). IsPathFaultOrMemory p c.in-Err.fault) path c.in-Err.ensures.fault in
+    let fault = subst (λ (name : List ℕ). IsPathFaultOrMemory (below c.args.folder.now name) c.in-Err.fault) c.as_slice.ensures c.in-Err.ensures.fault in
     rw c.fault_of_path.ensures (rows_fail c.args.folder.now c.args.id c.args.entries.items c.pop.new.self.items c.in-Some.e c.rows.rows.items c.in-Err.fault taken c.requires.order c.requires.folder fault)
 
 pub rows-preserved : goal.rows-preserved
 rows-preserved c =
-    let path = c.deref.ensures.value ∙ (c.in_ok-bytes.ensures ∙ ap (below c.args.folder.now) c.as_slice.ensures) in
     let taken = subst (λ (es : List TreeEntry). HasTaken c.args.folder.now c.args.entries.items es c.rows.rows.items) c.in-Some.ensures.items c.rows.invariant in
-    one_taken c.args.folder.now c.args.entries.items c.pop.new.self.items c.in-Some.e c.rows.rows.items c.push.new.self.items taken
-    (sym (ap is_path_text path) ∙ path_passes c.deref.result.now c.in-Ok.ensures.ok.1)
-    (c.in_ok-push-in-Ok.ensures.items ∙ ap (λ (p : List ℕ). c.rows.rows.items ++ (p, record { mode = c.in-Some.e.mode; id = c.in-Some.e.id }) ∷ []) (c.in-Ok.ensures.ok.0 ∙ path))
+    let path = subst (λ (name : List ℕ). IsPath (below c.args.folder.now name)) c.as_slice.ensures c.in-Ok.ensures.ok.1 in
+    let bytes = c.in-Ok.ensures.ok.0 ∙ ap (below c.args.folder.now) c.as_slice.ensures in
+    one_taken c.args.folder.now c.args.entries.items c.pop.new.self.items c.in-Some.e c.rows.rows.items c.push.new.self.items taken (path_passes (below c.args.folder.now c.in-Some.e.name) path)
+    (c.in_ok-push-in-Ok.ensures.items ∙ ap (λ (p : List ℕ). c.rows.rows.items ++ (p, record { mode = c.in-Some.e.mode; id = c.in-Some.e.id }) ∷ []) bytes)

@@ -1,10 +1,12 @@
-use Rattle.std.proofs.Common.{◌≡◌, length}
+use Rattle.std.proofs.Common.{◌≡◌, List, length}
 use Rattle.seq_model.specs.Faults.{lacks_one}
-use Rattle.seq_words.specs.Rows.{all_given, rows_of}
+use Rattle.seq_model.specs.Given.{Given}
+use Rattle.seq_words.specs.Rows.{rows_of}
+use Rattle.seq_words.specs.Told.{Holds}
 use Rattle.seq_words.proofs.fault.lacks_one.Given as goal
 
 abbrev pub invariant-loop-rest : goal.invariant-loop-rest
-invariant-loop-rest l = lacks_one (rows_of l.rest) (all_given l.all) ≡ lacks_one (rows_of l.rows) (all_given l.all)
+invariant-loop-rest l = (all : List Given) → Holds l.m all → lacks_one (rows_of l.rest) all ≡ lacks_one (rows_of l.rows) all
 
 abbrev pub decreases-loop-rest : goal.decreases-loop-rest
 decreases-loop-rest l = length l.rest

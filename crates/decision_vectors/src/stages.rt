@@ -1,0 +1,72 @@
+//! Cases of `stage_index`. An index is written as its hex digits.
+
+ghost use Rattle.std.specs.Prelude.{IfOk};
+ghost use Rattle.index_file.specs.Entries.{IsIndex};
+
+use cases::{Answer, Case, CaseFault, put_map};
+use index_file::{IndexEntry, IndexFault, parse_index};
+use stage_index::{StageFault, set_stages, to_map, unmerged};
+
+fn index_of(case: &mut Case<'_>) -> Result<Vec<IndexEntry>, CaseFault>
+    ensures { IfOk result (λ entries. IsIndex entries.items) }
+{
+    match parse_index(case.alloc, &case.fields.hex()?) {
+        Ok(entries) => Ok(entries),
+        Err(IndexFault::Memory) => Err(CaseFault::Memory),
+        Err(_) => Err(CaseFault::Value),
+    }
+}
+
+/// INDEX: its unmerged paths.
+pub fn unmerged_paths(case: &mut Case<'_>) -> Result<(), CaseFault> {
+    let entries = index_of(case)?;
+    case.out.word(b"unmerged")?;
+    for path in unmerged(case.alloc, &entries)?.iter() {
+        case.out.bytes(path.bytes())?;
+    }
+    Ok(())
+}
+
+/// INDEX: its map, or why it has none.
+#[tactic(auto, using(stage_index::proofs::Joining::no_folders))]
+pub fn map_of_index(case: &mut Case<'_>) -> Result<(), CaseFault> {
+    let entries = index_of(case)?;
+    match to_map(case.alloc, &entries) {
+        Ok(map) => {
+            case.out.word(b"map")?;
+            put_map(&mut case.out, &map)?;
+        }
+        Err(StageFault::Unmerged { path }) => case.out.named(b"unmerged", path.bytes())?,
+        Err(StageFault::Clash { path }) => case.out.named(b"clash", path.bytes())?,
+        Err(StageFault::Memory) => return Err(CaseFault::Memory),
+    }
+    Ok(())
+}
+
+fn put_entries(out: &mut Answer, entries: &[IndexEntry]) -> Result<(), CaseFault> {
+    out.counted(b"entries", entries.len() as u64)?;
+    for entry in entries {
+        out.bytes(entry.path.bytes())?;
+        out.number(u64::from(entry.stage))?;
+        out.mode(entry.mode)?;
+        out.id(entry.id)?;
+    }
+    Ok(())
+}
+
+/// INDEX PATH MERGED BASE OURS THEIRS, each of these `none` or a mode and an id: the entries once the path has these stages.
+pub fn with_stages(case: &mut Case<'_>) -> Result<(), CaseFault> {
+    let mut entries = index_of(case)?;
+    let path = case.fields.path()?;
+    let merged = case.fields.entry_or_none()?;
+    let base = case.fields.entry_or_none()?;
+    let ours = case.fields.entry_or_none()?;
+    let theirs = case.fields.entry_or_none()?;
+    set_stages(
+        case.alloc,
+        &mut entries,
+        &path,
+        [merged, base, ours, theirs],
+    )?;
+    put_entries(&mut case.out, &entries)
+}

@@ -1,0 +1,4 @@
+pub mod Quoting
+pub mod FilePaths
+pub mod Driving
+pub mod Running

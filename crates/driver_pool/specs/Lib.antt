@@ -1,0 +1,4 @@
+pub mod Files
+pub mod Commands
+pub mod ShellWords
+pub mod Pools

@@ -1,0 +1,142 @@
+-- What a run of merge drivers is seen to do, one after another (gitattributes(5), "Defining a custom merge driver").
+use Rattle.std.specs.Prelude.{◌≡◌, ◌⊎◌, ℕ, ◌+◌, ◌≤◌, ◌==◌, nat_lt, Bool, true, false, if◌then◌else◌, List, [], ◌∷◌, length, Option, Some, None, Result, Ok, Err}
+use Rattle.std.specs.FinMap as map
+use Rattle.std.specs.Global.{Vec}
+use Rattle.std.specs.List.{AllByRecursion}
+use Rattle.child_jobs.specs.Jobs.{exec_of}
+use Rattle.seq_base.specs.Words.{Text}
+use Rattle.seq_base.specs.World.{World}
+use Rattle.seq_outside.specs.Causes.{Rose}
+use Rattle.seq_outside.specs.Child.{Noted}
+use Rattle.seq_outside.specs.Seen.{Cause, Goes, HasCause, Seen, cause_of}
+use Rattle.seq_outside.specs.Seen.Cause.{ByBlock, ByFault, ByNone}
+use Rattle.seq_outside.specs.declared.child.Exit.{Exit}
+use Rattle.seq_outside.specs.declared.child.Exit.TheVariants.{Code, Killed}
+use Rattle.seq_outside.specs.declared.store.StoreError.{StoreError}
+use Rattle.seq_outside.specs.declared.store.StoreError.TheVariants as store
+use Rattle.driver_pool.specs.Files.{file_of, with_files, without_files}
+use Rattle.driver_pool.specs.declared.end.DriverEnd.{DriverEnd}
+use Rattle.driver_pool.specs.declared.end.DriverEnd.TheVariants.{Broken, Clean, Conflict}
+use Rattle.driver_pool.specs.declared.end.PoolFault.{PoolFault}
+use Rattle.driver_pool.specs.declared.end.PoolFault.TheVariants.{Blocked, Child, Fault, Memory}
+use Rattle.driver_pool.specs.declared.files.Version.TheVariants.{Ours}
+use Rattle.driver_pool.specs.declared.job.DriverJob.{DriverJob}
+
+-- how a driver ended, by its status and by what its file then holds
+abbrev pub end_with : ℕ → Option Text → DriverEnd
+end_with code None = Broken (Code code)
+end_with code (Some text) = if code == 0 then Clean text else Conflict text
+
+abbrev pub end_of : Exit → Option Text → DriverEnd
+end_of (Code code) text = if nat_lt code 128 then end_with code text else Broken (Code code)
+end_of Killed text = Broken Killed
+
+-- ---- faults
+
+abbrev pub fault_of : StoreError → PoolFault
+fault_of store.Failed = Fault
+fault_of store.Blocked = Blocked
+fault_of store.Memory = Memory
+
+abbrev pub pool_cause : PoolFault → Cause
+pool_cause Fault = ByFault
+pool_cause Blocked = ByBlock
+pool_cause Child = ByNone
+pool_cause Memory = ByNone
+
+abbrev pub or_fault : Result (Unit {0}) PoolFault → Result (Unit {0}) PoolFault → Result (Unit {0}) PoolFault
+or_fault (Err Fault) first = Err Fault
+or_fault (Err Blocked) first = first
+or_fault (Err Child) first = first
+or_fault (Err Memory) first = first
+or_fault (Ok x) first = first
+
+-- what two calls come to: a fault of the store before all, else what the first came to
+abbrev pub ended_as : Result (Unit {0}) PoolFault → Result (Unit {0}) PoolFault → Result (Unit {0}) PoolFault
+ended_as (Err Fault) second = Err Fault
+ended_as (Err Blocked) second = or_fault second (Err Blocked)
+ended_as (Err Child) second = or_fault second (Err Child)
+ended_as (Err Memory) second = or_fault second (Err Memory)
+ended_as (Ok x) second = second
+
+-- A fault of the store, a blocked put and a child that could not be run come only where that count rose, and no count falls.
+abbrev pub HasPoolCause : {T : Type 0} → Type 0 → Result T PoolFault → Seen → Seen → ℕ → ℕ → Type 0
+HasPoolCause told (Ok x) old new children children' = Goes told old new × (children ≤ children')
+HasPoolCause told (Err Fault) old new children children' = Goes told old new × (children ≤ children') × Rose old.faults new.faults
+HasPoolCause told (Err Blocked) old new children children' = Goes told old new × (children ≤ children') × Rose old.blocked new.blocked
+HasPoolCause told (Err Child) old new children children' = Goes told old new × (children ≤ children') × Rose children children'
+HasPoolCause told (Err Memory) old new children children' = Goes told old new × (children ≤ children')
+
+-- ---- one driver
+
+-- The job of that number was handed in, over what was found and its files.
+pub record HandsIn {P : Type 0} (told : Type 0) (ran : P → Noted → P → Type 0) (number : ℕ) (job : DriverJob) (p : P) (found : World) (n : Noted) (q : P) : Type 0 where
+  pub ran_is : ran p n q
+  pub job_is : n.job ≡ exec_of job.command
+  pub over_is : told → n.over ≡ with_files number job found
+
+-- What is seen of one driver. `after` is what becomes of the world that its child leaves.
+abbrev pub DrivesBy : {P : Type 0} → (World → World) → Type 0 → (P → Noted → P → Type 0) → ℕ → DriverJob → P → Seen → Result DriverEnd PoolFault → P → Seen → Type 0
+DrivesBy after told ran number job p old (Ok end) q new =
+    (n : Noted) × HandsIn told ran number job p old.content n q
+    × (n.failed ≡ false) × (told → end ≡ end_of n.exit (map.get n.left (file_of number Ours))) × (told → new.content ≡ after n.left)
+DrivesBy after told ran number job p old (Err Child) q new =
+    (n : Noted) × HandsIn told ran number job p old.content n q × (n.failed ≡ true) × (told → new.content ≡ after n.left)
+DrivesBy after told ran number job p old (Err Fault) q new = (q ≡ p) ⊎ ((n : Noted) × HandsIn told ran number job p old.content n q)
+DrivesBy after told ran number job p old (Err Blocked) q new = (q ≡ p) ⊎ ((n : Noted) × HandsIn told ran number job p old.content n q)
+DrivesBy after told ran number job p old (Err Memory) q new = (q ≡ p) ⊎ ((n : Noted) × HandsIn told ran number job p old.content n q)
+
+-- one driver, whose files are removed behind it
+pub record IsDriven {P : Type 0} (told : Type 0) (ran : P → Noted → P → Type 0) (number : ℕ) (job : DriverJob) (p : P) (old : Seen) (result : Result DriverEnd PoolFault) (q : P) (new : Seen) : Type 0 where
+  pub by : DrivesBy (without_files number) told ran number job p old result q new
+
+-- ---- all drivers
+
+-- From the one spawner to the other these were noted, one after another.
+module _ {P : Type 0} (ran : P → Noted → P → Type 0) where
+  abbrev pub AreNoted : P → List Noted → P → Type 0
+  AreNoted p [] q = q ≡ p
+  AreNoted p (n ∷ notes) q = (next : P) × ran p n next × AreNoted next notes q
+
+-- The first of the jobs were handed in, numbered from that number on, each over what the one before it left and its own files.
+abbrev pub AreHandedIn : Type 0 → ℕ → List DriverJob → World → List Noted → Type 0
+AreHandedIn told number jobs w [] = Unit {0}
+AreHandedIn told number [] w (n ∷ notes) = ⊥
+AreHandedIn told number (job ∷ jobs) w (n ∷ notes) =
+    (n.job ≡ exec_of job.command) × (told → n.over ≡ with_files number job w)
+    × AreHandedIn told (number + 1) jobs (without_files number n.left) notes
+
+-- what stands behind them: what the last left, without its files
+abbrev pub left_behind : ℕ → World → List Noted → World
+left_behind number w [] = w
+left_behind number w (n ∷ notes) = left_behind (number + 1) (without_files number n.left) notes
+
+-- their ends, in the order of the jobs
+abbrev pub ends_of : ℕ → List Noted → List DriverEnd
+ends_of number [] = []
+ends_of number (n ∷ notes) = end_of n.exit (map.get n.left (file_of number Ours)) ∷ ends_of (number + 1) notes
+
+abbrev pub HasWell : List Noted → Type 0
+HasWell notes = AllByRecursion (λ n. n.failed ≡ false) notes
+
+-- the last of them could not be run
+abbrev pub HasFailedLast : List Noted → Type 0
+HasFailedLast [] = ⊥
+HasFailedLast (n ∷ []) = n.failed ≡ true
+HasFailedLast (n ∷ m ∷ notes) = (n.failed ≡ false) × HasFailedLast (m ∷ notes)
+
+-- Behind Ok each job has ended, and behind Child the last could not be run; then none of their files is left.
+abbrev pub ComesTo : Type 0 → List DriverJob → World → List Noted → Result (Vec DriverEnd) PoolFault → World → Type 0
+ComesTo told jobs w notes (Ok ends) left =
+    (length notes ≡ length jobs) × HasWell notes × (told → ends.items ≡ ends_of 1 notes) × (told → left ≡ left_behind 1 w notes)
+ComesTo told jobs w notes (Err Child) left = HasFailedLast notes × (told → left ≡ left_behind 1 w notes)
+ComesTo told jobs w notes (Err Fault) left = Unit {0}
+ComesTo told jobs w notes (Err Blocked) left = Unit {0}
+ComesTo told jobs w notes (Err Memory) left = Unit {0}
+
+-- What was seen of the spawner, and what it came to.
+pub record RunsDrivers {P : Type 0} (told : Type 0) (ran : P → Noted → P → Type 0) (jobs : List DriverJob) (p : P) (w : World) (result : Result (Vec DriverEnd) PoolFault) (q : P) (left : World) : Type 0 where
+  pub notes : List Noted
+  pub noted : AreNoted ran p notes q
+  pub handed : AreHandedIn told 1 jobs w notes
+  pub comes : ComesTo told jobs w notes result left

@@ -1,0 +1,5 @@
+pub mod Bases
+pub mod Commits
+pub mod Faults
+pub mod Laws
+pub mod Revs

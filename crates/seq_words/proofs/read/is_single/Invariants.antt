@@ -1,0 +1,11 @@
+use Rattle.std.proofs.Common.{◌≡◌, List, length}
+use Rattle.seq_model.specs.Given.{Given, is_single}
+use Rattle.seq_words.specs.Rows.{rows_of}
+use Rattle.seq_words.specs.Told.{Holds}
+use Rattle.seq_words.proofs.read.is_single.Given as goal
+
+abbrev pub invariant-loop-rest : goal.invariant-loop-rest
+invariant-loop-rest l = (all : List Given) → Holds l.m all → is_single (rows_of l.rest) all ≡ is_single (rows_of l.rows) all
+
+abbrev pub decreases-loop-rest : goal.decreases-loop-rest
+decreases-loop-rest l = length l.rest

@@ -1,0 +1,17 @@
+use Rattle.std.proofs.Common.{◌≡◌, length}
+use Rattle.seq_outside.specs.Seen.{HasReadCause}
+use Rattle.seq_outside.specs.Seen.Cause.{ByNone}
+use Rattle.worktree.specs.Own.{AreOwn}
+use Rattle.worktree.proofs.Conflicting.{SameWrites}
+use Rattle.worktree.proofs.conflict_writes.with_files.Given as goal
+
+abbrev pub invariant-loop-rest : goal.invariant-loop-rest
+invariant-loop-rest g l = record {
+  made : g.S.Store.told → SameWrites (g.S.Store.seen l.fn.store).content l.from l.fn.begun.items l.files l.writes.items l.rest;
+  own : AreOwn l.writes.items;
+  same : g.S.Store.told → (g.S.Store.seen l.store).content ≡ (g.S.Store.seen l.fn.store).content;
+  cause : HasReadCause g.S.Store.told ByNone (g.S.Store.seen l.fn.store) (g.S.Store.seen l.store);
+}
+
+abbrev pub decreases-loop-rest : goal.decreases-loop-rest
+decreases-loop-rest g l = length l.rest

@@ -1,0 +1,15 @@
+use Rattle.std.proofs.Common.{◌≡◌, length}
+use Rattle.seq_outside.specs.Seen.{HasReadCause}
+use Rattle.seq_outside.specs.Seen.Cause.{ByNone}
+use Rattle.worktree.proofs.Resetting.{SameReadable}
+use Rattle.worktree.proofs.reset.check_rows.Given as goal
+
+abbrev pub invariant-loop-rest : goal.invariant-loop-rest
+invariant-loop-rest g l = record {
+  made : g.S.Store.told → SameReadable (g.S.Store.seen l.fn.store).content l.index l.rest;
+  same : g.S.Store.told → (g.S.Store.seen l.store).content ≡ (g.S.Store.seen l.fn.store).content;
+  cause : HasReadCause g.S.Store.told ByNone (g.S.Store.seen l.fn.store) (g.S.Store.seen l.store);
+}
+
+abbrev pub decreases-loop-rest : goal.decreases-loop-rest
+decreases-loop-rest g l = length l.rest
