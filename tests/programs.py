@@ -8,6 +8,7 @@ import sys
 TOP = os.path.dirname(os.path.dirname(os.path.abspath(__file__)))
 RAWGIT = os.path.join(TOP, "tools", "rawgit")
 BUILT = os.path.join(TOP, "crates", "gitseq", "out", "gitseq")
+LIST_REFS = os.path.join(TOP, "crates", "list_refs", "out", "list_refs")
 SECONDS = 120
 
 SETTINGS = b"""\

@@ -1,1 +1,2 @@
-"""The cases of crates/vectors and crates/decision_vectors, a module for each subject, and where each wanted answer comes from."""
+"""The cases of crates/vectors, decision_vectors, store_vectors, state_vectors and run_vectors, a module for each subject, and where each
+wanted answer comes from."""

@@ -96,6 +96,14 @@ impl Answer {
         self.hex(id.bytes())
     }
 
+    /// An id, or `none`.
+    pub fn id_or_none(&mut self, id: Option<Id>) -> Result<(), AllocError> {
+        match id {
+            Some(id) => self.id(id),
+            None => self.word(b"none"),
+        }
+    }
+
     pub fn mode(&mut self, mode: Mode) -> Result<(), AllocError> {
         let text = format!(in *self.text.allocator(); "{:o}", mode.number())?;
         self.word(text.as_bytes())

@@ -17,7 +17,7 @@ pub struct Case<'a> {
 /// The verbs that a program answers.
 pub trait Verbs {
     /// Answers a case, and tells whether it has the verb.
-    fn answer(&self, verb: &[u8], case: &mut Case<'_>) -> Result<bool, CaseFault>;
+    fn answer(&self, verb: &str, case: &mut Case<'_>) -> Result<bool, CaseFault>;
 }
 
 fn answer_case<V: Verbs>(alloc: Global, verbs: &V, line: &[u8]) -> Result<Answer, CaseFault> {
@@ -27,7 +27,7 @@ fn answer_case<V: Verbs>(alloc: Global, verbs: &V, line: &[u8]) -> Result<Answer
         fields: Fields::new(alloc, words.as_slice()),
         out: Answer::new(alloc),
     };
-    let verb = case.fields.bytes()?;
+    let verb = case.fields.word()?;
     match verbs.answer(verb, &mut case) {
         Ok(true) | Err(CaseFault::Told) => {}
         Ok(false) => return Err(CaseFault::Verb),

@@ -35,21 +35,25 @@ impl<'a> Fields<'a> {
         Ok(Bytes::from_vec(Vec::from_slice(self.alloc, bytes)?))
     }
 
+    /// A word, which is text.
+    pub fn word(&mut self) -> Result<&'a str, CaseFault> {
+        match str::from_utf8(self.bytes()?) {
+            Ok(word) => Ok(word),
+            Err(_) => Err(CaseFault::Form),
+        }
+    }
+
     pub fn number(&mut self) -> Result<u64, CaseFault> {
-        let bytes = self.bytes()?;
-        let Ok(text) = str::from_utf8(bytes) else {
-            return Err(CaseFault::Form)
-        };
-        match text.parse::<u64>() {
+        match self.word()?.parse::<u64>() {
             Ok(number) => Ok(number),
             Err(_) => Err(CaseFault::Form),
         }
     }
 
     pub fn yes_or_no(&mut self) -> Result<bool, CaseFault> {
-        match self.bytes()? {
-            b"yes" => Ok(true),
-            b"no" => Ok(false),
+        match self.word()? {
+            "yes" => Ok(true),
+            "no" => Ok(false),
             _ => Err(CaseFault::Form),
         }
     }

@@ -11,7 +11,7 @@ use Rattle.config_text.specs.declared.place.Place.TheVariants.{Start, Indented, 
 use Rattle.config_text.specs.Bytes.{is_comment_mark, is_in_line, is_letter, is_key_byte, escaped, lower}
 use Rattle.config_text.specs.Values.{Part, Byte, Escape, Join, Quote, part_text, is_itself, is_value, marks, value_of}
 use Rattle.config_text.specs.Configs as text
-use Rattle.config_text.specs.Configs.{kept, assigned, Assignment, Header, Line, given, section_behind, sub_behind, sub_of}
+use Rattle.config_text.specs.Configs.{kept, assigned, Assignment, given}
 use Rattle.config_text.specs.Reading.{State, step}
 use Rattle.config_text.proofs.Runs.{st}
 use Rattle.config_text.proofs.Dropped.{core}

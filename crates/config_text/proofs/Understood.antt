@@ -9,7 +9,7 @@ use Rattle.config_text.specs.declared.place.Place.TheVariants as place
 use Rattle.config_text.specs.Bytes.{is_comment_mark, is_in_line, is_section_byte, is_key_byte, is_sub_byte, escaped, lower}
 use Rattle.config_text.specs.Values.{Part, Byte, Escape, Join, Quote, part_text, is_itself, is_value, marks}
 use Rattle.config_text.specs.Configs as text
-use Rattle.config_text.specs.Configs.{SubPart, Plain, Quoted, sub_part_text, is_sub_part, sub_part_byte, Header, Assignment, Line, line_text, section_behind, sub_behind, sub_of, settings_of, are_lines, assigned, kept, given}
+use Rattle.config_text.specs.Configs.{SubPart, Quoted, sub_part_text, is_sub_part, sub_part_byte, Header, Assignment, Line, line_text, section_behind, sub_behind, sub_of, settings_of, are_lines, assigned, kept, given}
 use Rattle.config_text.specs.Reading.{State, step, is_end, behind_end, with_escaped}
 use Rattle.config_text.proofs.Runs.{st}
 use Rattle.config_text.proofs.Dropped.{core}

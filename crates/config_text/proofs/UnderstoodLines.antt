@@ -11,7 +11,7 @@ use Rattle.config_text.specs.declared.place.Place.TheVariants as place
 use Rattle.config_text.specs.Bytes.{is_section_byte, is_letter, is_key_byte, is_sub_byte, is_plain_sub_byte, escaped, lower}
 use Rattle.config_text.specs.Values.{marks}
 use Rattle.config_text.specs.Configs as text
-use Rattle.config_text.specs.Configs.{Plain, Quoted, is_sub_part, sub_part_byte, Header, Line, line_text, section_behind, sub_behind, sub_of, settings_of, are_lines, assigned, kept, given}
+use Rattle.config_text.specs.Configs.{Plain, Quoted, is_sub_part, sub_part_byte, Line, line_text, section_behind, sub_behind, sub_of, settings_of, are_lines, assigned, kept}
 use Rattle.config_text.specs.Reading.{step, is_end, behind_end, at_item}
 use Rattle.config_text.proofs.Runs.{st, some_length}
 use Rattle.config_text.proofs.Dropped.{core}

@@ -8,17 +8,17 @@ use seq_model::{LimitWhat, Outcome, Paths, StopKind, UsageFault};
 use std::alloc::AllocError;
 
 fn usage_fault(fields: &mut Fields<'_>) -> Result<UsageFault, CaseFault> {
-    match fields.bytes()? {
-        b"NoVerb" => Ok(UsageFault::NoVerb),
-        b"UnknownVerb" => Ok(UsageFault::UnknownVerb {
+    match fields.word()? {
+        "NoVerb" => Ok(UsageFault::NoVerb),
+        "UnknownVerb" => Ok(UsageFault::UnknownVerb {
             word: fields.owned()?,
         }),
-        b"Parse" => Ok(UsageFault::Parse),
-        b"Value" => Ok(UsageFault::Value {
+        "Parse" => Ok(UsageFault::Parse),
+        "Value" => Ok(UsageFault::Value {
             word: fields.owned()?,
         }),
-        b"Missing" => Ok(UsageFault::Missing),
-        b"Pair" => {
+        "Missing" => Ok(UsageFault::Missing),
+        "Pair" => {
             let first = fields.owned()?;
             let second = fields.owned()?;
             Ok(UsageFault::Pair { first, second })
@@ -37,24 +37,24 @@ fn stopped(fields: &mut Fields<'_>) -> Result<Outcome, CaseFault> {
 }
 
 fn limit(fields: &mut Fields<'_>) -> Result<Outcome, CaseFault> {
-    let what: LimitWhat = limit_what(fields.bytes()?)?;
+    let what: LimitWhat = limit_what(fields.word()?)?;
     let number = fields.number()?;
     Ok(Outcome::Limit { what, number })
 }
 
 fn outcome(fields: &mut Fields<'_>) -> Result<Outcome, CaseFault> {
-    match fields.bytes()? {
-        b"Done" => Ok(Outcome::Done {
+    match fields.word()? {
+        "Done" => Ok(Outcome::Done {
             head: fields.id_or_none()?,
         }),
-        b"Stopped" => stopped(fields),
-        b"Usage" => Ok(Outcome::Usage(usage_fault(fields)?)),
-        b"Refused" => Ok(Outcome::Refused(refusal(fields)?)),
-        b"StoreFault" => Ok(Outcome::StoreFault),
-        b"ChildFault" => Ok(Outcome::ChildFault),
-        b"OutputFault" => Ok(Outcome::OutputFault),
-        b"Limit" => limit(fields),
-        b"Memory" => Ok(Outcome::Memory),
+        "Stopped" => stopped(fields),
+        "Usage" => Ok(Outcome::Usage(usage_fault(fields)?)),
+        "Refused" => Ok(Outcome::Refused(refusal(fields)?)),
+        "StoreFault" => Ok(Outcome::StoreFault),
+        "ChildFault" => Ok(Outcome::ChildFault),
+        "OutputFault" => Ok(Outcome::OutputFault),
+        "Limit" => limit(fields),
+        "Memory" => Ok(Outcome::Memory),
         _ => Err(CaseFault::Form),
     }
 }

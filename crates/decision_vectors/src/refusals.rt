@@ -7,73 +7,73 @@ use seq_base::Bytes;
 use seq_model::Refusal;
 
 /// A refusal without fields.
-fn plain(word: &[u8]) -> Option<Refusal> {
+fn plain(word: &str) -> Option<Refusal> {
     match word {
-        b"NotARepository" => Some(Refusal::NotARepository),
-        b"BadHead" => Some(Refusal::BadHead),
-        b"UnbornHead" => Some(Refusal::UnbornHead),
-        b"NoIdentity" => Some(Refusal::NoIdentity),
-        b"NoBase" => Some(Refusal::NoBase),
-        b"NothingToDo" => Some(Refusal::NothingToDo),
-        b"NothingInProgress" => Some(Refusal::NothingInProgress),
-        b"Interrupted" => Some(Refusal::Interrupted),
-        b"AlreadyARepository" => Some(Refusal::AlreadyARepository),
-        b"EmptyMessage" => Some(Refusal::EmptyMessage),
-        b"NotBuilt" => Some(Refusal::NotBuilt),
+        "NotARepository" => Some(Refusal::NotARepository),
+        "BadHead" => Some(Refusal::BadHead),
+        "UnbornHead" => Some(Refusal::UnbornHead),
+        "NoIdentity" => Some(Refusal::NoIdentity),
+        "NoBase" => Some(Refusal::NoBase),
+        "NothingToDo" => Some(Refusal::NothingToDo),
+        "NothingInProgress" => Some(Refusal::NothingInProgress),
+        "Interrupted" => Some(Refusal::Interrupted),
+        "AlreadyARepository" => Some(Refusal::AlreadyARepository),
+        "EmptyMessage" => Some(Refusal::EmptyMessage),
+        "NotBuilt" => Some(Refusal::NotBuilt),
         _ => None,
     }
 }
 
 /// A refusal with a word or a file.
-fn of_word(name: &[u8], word: Bytes) -> Result<Refusal, CaseFault> {
+fn of_word(name: &str, word: Bytes) -> Result<Refusal, CaseFault> {
     match name {
-        b"NoSuchRev" => Ok(Refusal::NoSuchRev { word }),
-        b"NotACommit" => Ok(Refusal::NotACommit { word }),
-        b"NoParent" => Ok(Refusal::NoParent { word }),
-        b"NoLogEntry" => Ok(Refusal::NoLogEntry { word }),
-        b"BadRevForm" => Ok(Refusal::BadRevForm { word }),
-        b"BadPath" => Ok(Refusal::BadPath { word }),
-        b"Unsupported" => Ok(Refusal::Unsupported { key: word }),
-        b"BadState" => Ok(Refusal::BadState { file: word }),
+        "NoSuchRev" => Ok(Refusal::NoSuchRev { word }),
+        "NotACommit" => Ok(Refusal::NotACommit { word }),
+        "NoParent" => Ok(Refusal::NoParent { word }),
+        "NoLogEntry" => Ok(Refusal::NoLogEntry { word }),
+        "BadRevForm" => Ok(Refusal::BadRevForm { word }),
+        "BadPath" => Ok(Refusal::BadPath { word }),
+        "Unsupported" => Ok(Refusal::Unsupported { key: word }),
+        "BadState" => Ok(Refusal::BadState { file: word }),
         _ => of_path(name, word),
     }
 }
 
 /// A refusal with a path.
-fn of_path(name: &[u8], path: Bytes) -> Result<Refusal, CaseFault> {
+fn of_path(name: &str, path: Bytes) -> Result<Refusal, CaseFault> {
     match name {
-        b"InProgress" => Ok(Refusal::InProgress { path }),
-        b"Unmerged" => Ok(Refusal::Unmerged { path }),
-        b"Dirty" => Ok(Refusal::Dirty { path }),
-        b"WouldOverwrite" => Ok(Refusal::WouldOverwrite { path }),
-        b"Unstaged" => Ok(Refusal::Unstaged { path }),
-        b"Staged" => Ok(Refusal::Staged { path }),
-        b"NotTracked" => Ok(Refusal::NotTracked { path }),
-        b"Conflict" => Ok(Refusal::Conflict { path }),
+        "InProgress" => Ok(Refusal::InProgress { path }),
+        "Unmerged" => Ok(Refusal::Unmerged { path }),
+        "Dirty" => Ok(Refusal::Dirty { path }),
+        "WouldOverwrite" => Ok(Refusal::WouldOverwrite { path }),
+        "Unstaged" => Ok(Refusal::Unstaged { path }),
+        "Staged" => Ok(Refusal::Staged { path }),
+        "NotTracked" => Ok(Refusal::NotTracked { path }),
+        "Conflict" => Ok(Refusal::Conflict { path }),
         _ => Err(CaseFault::Form),
     }
 }
 
 /// A refusal with an id, a line or an exit.
-fn of_field(name: &[u8], fields: &mut Fields<'_>) -> Result<Option<Refusal>, CaseFault> {
+fn of_field(name: &str, fields: &mut Fields<'_>) -> Result<Option<Refusal>, CaseFault> {
     let refusal = match name {
-        b"Mainline" => Refusal::Mainline { id: fields.id()? },
-        b"Octopus" => Refusal::Octopus { id: fields.id()? },
-        b"NewRoot" => Refusal::NewRoot { id: fields.id()? },
-        b"BadObject" => Refusal::BadObject { id: fields.id()? },
-        b"BadRefs" => Refusal::BadRefs {
+        "Mainline" => Refusal::Mainline { id: fields.id()? },
+        "Octopus" => Refusal::Octopus { id: fields.id()? },
+        "NewRoot" => Refusal::NewRoot { id: fields.id()? },
+        "BadObject" => Refusal::BadObject { id: fields.id()? },
+        "BadRefs" => Refusal::BadRefs {
             line: fields.number()?,
         },
-        b"BadConfig" => Refusal::BadConfig {
+        "BadConfig" => Refusal::BadConfig {
             line: fields.number()?,
         },
-        b"HookRefused" => Refusal::HookRefused {
+        "HookRefused" => Refusal::HookRefused {
             exit: exit(fields)?,
         },
-        b"EditorFailed" => Refusal::EditorFailed {
+        "EditorFailed" => Refusal::EditorFailed {
             exit: exit(fields)?,
         },
-        b"HeadMoved" => Refusal::HeadMoved {
+        "HeadMoved" => Refusal::HeadMoved {
             found: fields.id_or_none()?,
         },
         _ => return Ok(None),
@@ -82,37 +82,37 @@ fn of_field(name: &[u8], fields: &mut Fields<'_>) -> Result<Option<Refusal>, Cas
 }
 
 fn index_fault(fields: &mut Fields<'_>) -> Result<IndexFault, CaseFault> {
-    match fields.bytes()? {
-        b"Magic" => Ok(IndexFault::Magic),
-        b"Version" => Ok(IndexFault::Version {
+    match fields.word()? {
+        "Magic" => Ok(IndexFault::Magic),
+        "Version" => Ok(IndexFault::Version {
             n: fields.number()?,
         }),
-        b"Count" => Ok(IndexFault::Count),
-        b"Name" => Ok(IndexFault::Name {
+        "Count" => Ok(IndexFault::Count),
+        "Name" => Ok(IndexFault::Name {
             n: fields.number()?,
         }),
-        b"Order" => Ok(IndexFault::Order {
+        "Order" => Ok(IndexFault::Order {
             n: fields.number()?,
         }),
-        b"Extension" => match fields.bytes()? {
+        "Extension" => match fields.bytes()? {
             [a, b, c, d] => Ok(IndexFault::Extension {
                 tag: [*a, *b, *c, *d],
             }),
             _ => Err(CaseFault::Form),
         },
-        b"Hash" => Ok(IndexFault::Hash),
-        b"Memory" => Ok(IndexFault::Memory),
+        "Hash" => Ok(IndexFault::Hash),
+        "Memory" => Ok(IndexFault::Memory),
         _ => Err(CaseFault::Form),
     }
 }
 
 /// A refusal with several fields, or with a fault.
-fn of_fields(name: &[u8], fields: &mut Fields<'_>) -> Result<Option<Refusal>, CaseFault> {
+fn of_fields(name: &str, fields: &mut Fields<'_>) -> Result<Option<Refusal>, CaseFault> {
     let refusal = match name {
-        b"BadIndex" => Refusal::BadIndex {
+        "BadIndex" => Refusal::BadIndex {
             fault: index_fault(fields)?,
         },
-        b"AmbiguousRev" => {
+        "AmbiguousRev" => {
             let word = fields.owned()?;
             let first = fields.id()?;
             let second = fields.id()?;
@@ -122,17 +122,17 @@ fn of_fields(name: &[u8], fields: &mut Fields<'_>) -> Result<Option<Refusal>, Ca
                 second,
             }
         }
-        b"SeveralBases" => {
+        "SeveralBases" => {
             let first = fields.id()?;
             let second = fields.id()?;
             Refusal::SeveralBases { first, second }
         }
-        b"TodoBad" => {
+        "TodoBad" => {
             let line = fields.number()?;
-            let kind = todo_kind(fields.bytes()?)?;
+            let kind = todo_kind(fields.word()?)?;
             Refusal::TodoBad { line, kind }
         }
-        b"DriverBroken" => {
+        "DriverBroken" => {
             let path = fields.owned()?;
             let exit = exit(fields)?;
             Refusal::DriverBroken { path, exit }
@@ -143,7 +143,7 @@ fn of_fields(name: &[u8], fields: &mut Fields<'_>) -> Result<Option<Refusal>, Ca
 }
 
 pub fn refusal(fields: &mut Fields<'_>) -> Result<Refusal, CaseFault> {
-    let name = fields.bytes()?;
+    let name = fields.word()?;
     if let Some(refusal) = plain(name) {
         return Ok(refusal);
     }

@@ -1,21 +1,8 @@
 //! Cases of `stage_index`. An index is written as its hex digits.
 
-ghost use Rattle.std.specs.Prelude.{IfOk};
-ghost use Rattle.index_file.specs.Entries.{IsIndex};
-
-use cases::{Answer, Case, CaseFault, put_map};
-use index_file::{IndexEntry, IndexFault, parse_index};
+use cases::{Answer, Case, CaseFault, index_of, put_map};
+use index_file::IndexEntry;
 use stage_index::{StageFault, set_stages, to_map, unmerged};
-
-fn index_of(case: &mut Case<'_>) -> Result<Vec<IndexEntry>, CaseFault>
-    ensures { IfOk result (λ entries. IsIndex entries.items) }
-{
-    match parse_index(case.alloc, &case.fields.hex()?) {
-        Ok(entries) => Ok(entries),
-        Err(IndexFault::Memory) => Err(CaseFault::Memory),
-        Err(_) => Err(CaseFault::Value),
-    }
-}
 
 /// INDEX: its unmerged paths.
 pub fn unmerged_paths(case: &mut Case<'_>) -> Result<(), CaseFault> {

@@ -4,78 +4,75 @@ use cases::{CaseFault, Fields};
 use seq_model::{LimitWhat, Reason, StopKind, TodoKind};
 use seq_outside::Exit;
 
-pub fn limit_what(word: &[u8]) -> Result<LimitWhat, CaseFault> {
+pub fn limit_what(word: &str) -> Result<LimitWhat, CaseFault> {
     match word {
-        b"ObjectBytes" => Ok(LimitWhat::ObjectBytes),
-        b"TreeDepth" => Ok(LimitWhat::TreeDepth),
-        b"IndexEntries" => Ok(LimitWhat::IndexEntries),
-        b"TodoLines" => Ok(LimitWhat::TodoLines),
-        b"TodoBytes" => Ok(LimitWhat::TodoBytes),
-        b"Labels" => Ok(LimitWhat::Labels),
-        b"Parents" => Ok(LimitWhat::Parents),
-        b"Commits" => Ok(LimitWhat::Commits),
-        b"Jobs" => Ok(LimitWhat::Jobs),
+        "ObjectBytes" => Ok(LimitWhat::ObjectBytes),
+        "TreeDepth" => Ok(LimitWhat::TreeDepth),
+        "IndexEntries" => Ok(LimitWhat::IndexEntries),
+        "TodoLines" => Ok(LimitWhat::TodoLines),
+        "TodoBytes" => Ok(LimitWhat::TodoBytes),
+        "Labels" => Ok(LimitWhat::Labels),
+        "Parents" => Ok(LimitWhat::Parents),
+        "Commits" => Ok(LimitWhat::Commits),
+        "Jobs" => Ok(LimitWhat::Jobs),
         _ => Err(CaseFault::Form),
     }
 }
 
-pub fn todo_kind(word: &[u8]) -> Result<TodoKind, CaseFault> {
+pub fn todo_kind(word: &str) -> Result<TodoKind, CaseFault> {
     match word {
-        b"Command" => Ok(TodoKind::Command),
-        b"Missing" => Ok(TodoKind::Missing),
-        b"Extra" => Ok(TodoKind::Extra),
-        b"Label" => Ok(TodoKind::Label),
-        b"RefName" => Ok(TodoKind::RefName),
-        b"Octopus" => Ok(TodoKind::Octopus),
-        b"NoEarlier" => Ok(TodoKind::NoEarlier),
-        b"NoSuchCommit" => Ok(TodoKind::NoSuchCommit),
-        b"MergePicked" => Ok(TodoKind::MergePicked),
-        b"OwnBranch" => Ok(TodoKind::OwnBranch),
-        b"NotBuilt" => Ok(TodoKind::NotBuilt),
+        "Command" => Ok(TodoKind::Command),
+        "Missing" => Ok(TodoKind::Missing),
+        "Extra" => Ok(TodoKind::Extra),
+        "Label" => Ok(TodoKind::Label),
+        "RefName" => Ok(TodoKind::RefName),
+        "Octopus" => Ok(TodoKind::Octopus),
+        "NoEarlier" => Ok(TodoKind::NoEarlier),
+        "NoSuchCommit" => Ok(TodoKind::NoSuchCommit),
+        "MergePicked" => Ok(TodoKind::MergePicked),
+        "OwnBranch" => Ok(TodoKind::OwnBranch),
+        "NotBuilt" => Ok(TodoKind::NotBuilt),
         _ => Err(CaseFault::Form),
     }
 }
 
 /// `Killed`, or an exit code.
 pub fn exit(fields: &mut Fields<'_>) -> Result<Exit, CaseFault> {
-    let word = fields.bytes()?;
-    if word == b"Killed".as_slice() {
+    let word = fields.word()?;
+    if word == "Killed" {
         return Ok(Exit::Killed);
     }
-    let Ok(text) = str::from_utf8(word) else {
-        return Err(CaseFault::Form)
-    };
-    match text.parse::<u8>() {
+    match word.parse::<u8>() {
         Ok(code) => Ok(Exit::Code(code)),
         Err(_) => Err(CaseFault::Form),
     }
 }
 
 fn reason(fields: &mut Fields<'_>) -> Result<Reason, CaseFault> {
-    match fields.bytes()? {
-        b"WouldOverwrite" => Ok(Reason::WouldOverwrite {
+    match fields.word()? {
+        "WouldOverwrite" => Ok(Reason::WouldOverwrite {
             path: fields.owned()?,
         }),
-        b"BadName" => Ok(Reason::BadName {
+        "BadName" => Ok(Reason::BadName {
             word: fields.owned()?,
         }),
-        b"NoBase" => Ok(Reason::NoBase),
-        b"SeveralBases" => {
+        "NoBase" => Ok(Reason::NoBase),
+        "SeveralBases" => {
             let first = fields.id()?;
             let second = fields.id()?;
             Ok(Reason::SeveralBases { first, second })
         }
-        b"BadObject" => Ok(Reason::BadObject { id: fields.id()? }),
-        b"BadHead" => Ok(Reason::BadHead),
-        b"BadIndex" => Ok(Reason::BadIndex),
-        b"HeadMoved" => Ok(Reason::HeadMoved {
+        "BadObject" => Ok(Reason::BadObject { id: fields.id()? }),
+        "BadHead" => Ok(Reason::BadHead),
+        "BadIndex" => Ok(Reason::BadIndex),
+        "HeadMoved" => Ok(Reason::HeadMoved {
             found: fields.id_or_none()?,
         }),
-        b"Dirty" => Ok(Reason::Dirty {
+        "Dirty" => Ok(Reason::Dirty {
             path: fields.owned()?,
         }),
-        b"Limit" => {
-            let what = limit_what(fields.bytes()?)?;
+        "Limit" => {
+            let what = limit_what(fields.word()?)?;
             let number = fields.number()?;
             Ok(Reason::Limit { what, number })
         }
@@ -83,45 +80,45 @@ fn reason(fields: &mut Fields<'_>) -> Result<Reason, CaseFault> {
     }
 }
 
-fn plain_stop(word: &[u8]) -> Option<StopKind> {
+fn plain_stop(word: &str) -> Option<StopKind> {
     match word {
-        b"Conflict" => Some(StopKind::Conflict),
-        b"Edit" => Some(StopKind::Edit),
-        b"Break" => Some(StopKind::Break),
-        b"EmptyMessage" => Some(StopKind::EmptyMessage),
+        "Conflict" => Some(StopKind::Conflict),
+        "Edit" => Some(StopKind::Edit),
+        "Break" => Some(StopKind::Break),
+        "EmptyMessage" => Some(StopKind::EmptyMessage),
         _ => None,
     }
 }
 
-fn stop_of(word: &[u8], fields: &mut Fields<'_>) -> Result<StopKind, CaseFault> {
+fn stop_of(word: &str, fields: &mut Fields<'_>) -> Result<StopKind, CaseFault> {
     match word {
-        b"ExecFailed" => Ok(StopKind::ExecFailed {
+        "ExecFailed" => Ok(StopKind::ExecFailed {
             exit: exit(fields)?,
         }),
-        b"ExecDirty" => Ok(StopKind::ExecDirty {
+        "ExecDirty" => Ok(StopKind::ExecDirty {
             path: fields.owned()?,
         }),
-        b"Empty" => Ok(StopKind::Empty { id: fields.id()? }),
-        b"HookRefused" => {
+        "Empty" => Ok(StopKind::Empty { id: fields.id()? }),
+        "HookRefused" => {
             let name = fields.owned()?;
             let exit = exit(fields)?;
             Ok(StopKind::HookRefused { name, exit })
         }
-        b"EditorFailed" => Ok(StopKind::EditorFailed {
+        "EditorFailed" => Ok(StopKind::EditorFailed {
             exit: exit(fields)?,
         }),
-        b"DriverBroken" => {
+        "DriverBroken" => {
             let path = fields.owned()?;
             let exit = exit(fields)?;
             Ok(StopKind::DriverBroken { path, exit })
         }
-        b"Blocked" => Ok(StopKind::Blocked(reason(fields)?)),
-        b"TodoBad" => {
+        "Blocked" => Ok(StopKind::Blocked(reason(fields)?)),
+        "TodoBad" => {
             let line = fields.number()?;
-            let kind = todo_kind(fields.bytes()?)?;
+            let kind = todo_kind(fields.word()?)?;
             Ok(StopKind::TodoBad { line, kind })
         }
-        b"RefMoved" => {
+        "RefMoved" => {
             let name = fields.owned()?;
             let found = fields.id_or_none()?;
             Ok(StopKind::RefMoved { name, found })
@@ -131,7 +128,7 @@ fn stop_of(word: &[u8], fields: &mut Fields<'_>) -> Result<StopKind, CaseFault> 
 }
 
 pub fn stop_kind(fields: &mut Fields<'_>) -> Result<StopKind, CaseFault> {
-    let word = fields.bytes()?;
+    let word = fields.word()?;
     match plain_stop(word) {
         Some(kind) => Ok(kind),
         None => stop_of(word, fields),

@@ -1,9 +1,7 @@
 -- The shell reads a quoted path as the path.
-use Rattle.std.proofs.Common.{◌≡◌, ℕ, ◌==◌, Bool, true, false, cond, List, [], ◌∷◌, ◌++◌, Some, refl, sym, ap, subst, eqb-true, ◌∙◌}
-use Rattle.std.specs.Prelude.{codes}
+use Rattle.std.proofs.Common.{◌≡◌, ℕ, ◌==◌, Bool, true, false, List, [], ◌∷◌, ◌++◌, Some, refl, sym, ap, subst, eqb-true, ◌∙◌}
 use Rattle.std.specs.List.{flat_map}
 use Rattle.std.specs.Option.{option_map}
-use Rattle.seq_base.specs.Words.{Text}
 use Rattle.driver_pool.specs.Commands.{quoted, quoted_byte}
 use Rattle.driver_pool.specs.ShellWords.{word_of}
 use Rattle.driver_pool.specs.ShellWords.Mode.{plain, in_quotes}

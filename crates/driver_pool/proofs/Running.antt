@@ -1,6 +1,5 @@
 -- What is seen of the drivers that are left goes on what was seen of those before them.
 use Rattle.std.proofs.Common.{◌≡◌, ◌⊎◌, ℕ, ◌+◌, ◌<◌, ◌-◌, true, false, drop, get_or, take, List, [], ◌∷◌, ◌++◌, length, Ok, Err, refl, sym, ap, subst, ◌∙◌, append_assoc, arith, inl, inr, append-nil}
-use Rattle.std.specs.Prelude.{Result}
 use Rattle.std.proofs.Math.Seq.{take-length}
 use Rattle.std.specs.FinMap as map
 use Rattle.std.specs.Global.{Vec}
@@ -8,7 +7,7 @@ use Rattle.seq_base.specs.World.{World}
 use Rattle.seq_outside.specs.Child.{Noted}
 use Rattle.seq_outside.specs.Seen.{Seen}
 use Rattle.driver_pool.specs.Files.{file_of, with_files, without_files}
-use Rattle.driver_pool.specs.Pools.{AreHandedIn, AreNoted, ComesTo, DrivesBy, HandsIn, HasFailedLast, HasWell, IsDriven, RunsDrivers, end_of, ends_of, left_behind}
+use Rattle.driver_pool.specs.Pools.{AreHandedIn, AreNoted, ComesTo, HandsIn, HasFailedLast, HasWell, IsDriven, RunsDrivers, end_of, ends_of, left_behind}
 use Rattle.driver_pool.specs.declared.end.DriverEnd.{DriverEnd}
 use Rattle.driver_pool.specs.declared.end.PoolFault.{PoolFault}
 use Rattle.driver_pool.specs.declared.end.PoolFault.TheVariants.{Blocked, Child, Fault, Memory}

@@ -1,5 +1,5 @@
 -- The command line of a merge driver (gitattributes(5), "Defining a custom merge driver").
-use Rattle.std.specs.Prelude.{ℕ, ◌==◌, Bool, true, false, if◌then◌else◌, List, [], ◌∷◌, ◌++◌, codes}
+use Rattle.std.specs.Prelude.{ℕ, ◌==◌, Bool, true, false, if◌then◌else◌, [], ◌∷◌, ◌++◌, codes}
 use Rattle.std.specs.List.{flat_map}
 use Rattle.seq_base.specs.Words.{Path, Text}
 use Rattle.driver_pool.specs.Files.{file_of}

@@ -1,5 +1,5 @@
 -- What a run of merge drivers is seen to do, one after another (gitattributes(5), "Defining a custom merge driver").
-use Rattle.std.specs.Prelude.{◌≡◌, ◌⊎◌, ℕ, ◌+◌, ◌≤◌, ◌==◌, nat_lt, Bool, true, false, if◌then◌else◌, List, [], ◌∷◌, length, Option, Some, None, Result, Ok, Err}
+use Rattle.std.specs.Prelude.{◌≡◌, ◌⊎◌, ℕ, ◌+◌, ◌≤◌, ◌==◌, nat_lt, true, false, if◌then◌else◌, List, [], ◌∷◌, length, Option, Some, None, Result, Ok, Err}
 use Rattle.std.specs.FinMap as map
 use Rattle.std.specs.Global.{Vec}
 use Rattle.std.specs.List.{AllByRecursion}
@@ -8,7 +8,7 @@ use Rattle.seq_base.specs.Words.{Text}
 use Rattle.seq_base.specs.World.{World}
 use Rattle.seq_outside.specs.Causes.{Rose}
 use Rattle.seq_outside.specs.Child.{Noted}
-use Rattle.seq_outside.specs.Seen.{Cause, Goes, HasCause, Seen, cause_of}
+use Rattle.seq_outside.specs.Seen.{Cause, Goes, Seen}
 use Rattle.seq_outside.specs.Seen.Cause.{ByBlock, ByFault, ByNone}
 use Rattle.seq_outside.specs.declared.child.Exit.{Exit}
 use Rattle.seq_outside.specs.declared.child.Exit.TheVariants.{Code, Killed}

@@ -1,5 +1,5 @@
 -- How a shell reads a word of quoted pieces (POSIX, Shell Command Language, 2.2 "Quoting").
-use Rattle.std.specs.Prelude.{ℕ, ◌==◌, if◌then◌else◌, List, [], ◌∷◌, Option, Some, None}
+use Rattle.std.specs.Prelude.{◌==◌, if◌then◌else◌, [], ◌∷◌, Option, Some, None}
 use Rattle.std.specs.Option.{option_map}
 use Rattle.seq_base.specs.Words.{Text}
 

@@ -21,8 +21,9 @@ use Rattle.ref_text.proofs.PackedTexts.{value_kept}
 use Rattle.ref_store.specs.declared.fault.RefFault.{RefFault}
 use Rattle.ref_store.specs.declared.fault.RefFault.TheVariants.{BadHead, BadPacked, BadRef}
 use Rattle.ref_store.specs.Paths.{behind, behind_file, chain_of, leads_through}
-use Rattle.ref_store.specs.Values.{decided, file_head, head_at, head_file, head_text, head_value, led, or_bad, packed_at, packed_value_at, value_at, value_within}
-use Rattle.ref_store.proofs.ValueLaws.{file_to, ok_inj, opened, packed_at_from}
+use Rattle.ref_store.specs.Values.{end_at, file_head, head_at, head_file, head_text, or_bad, packed_at, packed_value_at, value_at}
+use Rattle.ref_store.proofs.Chains.{decided, ended, head_value, head_value_is, led, opened, value_within}
+use Rattle.ref_store.proofs.ValueLaws.{file_to, ok_inj, packed_at_from}
 
 abbrev Value : Type 0
 Value = Result (Option (List ℕ)) RefFault
@@ -49,7 +50,7 @@ chain_behind on name text other o is leads = ap (behind_file on name) is ∙ ap 
 
 pub kept : (n : ℕ) (w after : World) (name from other : List ℕ) → ((m : List ℕ) → IsRefName m → bytes_eq m name ≡ false → IsSame w after m) → IsRefName other → list_any (λ m. bytes_eq m name) (chain_of n w other) ≡ false
     → value_within n after from other ≡ value_within n w from other
-kept zero w after name from other same is off = unfold value_within in refl
+kept zero w after name from other same is off = ended after from other ∙ sym (ended w from other)
 kept (suc n) w after name from other same is off =
     let both = or_parts (bytes_eq other name) (list_any (λ m. bytes_eq m name) (behind_file (chain_of n w) other (map.get w (ref_path other)))) off in
     let here = same other is both.0 in
@@ -80,9 +81,6 @@ head_same w after e = unfold head_at in ap head_file e
 pub head_opened : (w : World) (h : Head) → head_at w ≡ Ok h → head_file (map.get w (ref_path head_name)) ≡ Ok h
 head_opened w h e = unfold head_at in e
 
-pub head_value_is : (w : World) → head_value w ≡ (head_at w >>= led (value_within 5 w head_name))
-head_value_is w = unfold head_value in refl
-
 head_kept : (w after : World) (name : List ℕ) → ((m : List ℕ) → IsRefName m → bytes_eq m name ≡ false → IsSame w after m) → leads_through w head_name name ≡ false → head_value after ≡ head_value w
 head_kept w after name same off =
     let both = or_parts (bytes_eq head_name name) (list_any (λ m. bytes_eq m name) (behind_file (chain_of 5 w) head_name (map.get w (ref_path head_name)))) off in
@@ -97,10 +95,10 @@ head_kept w after name same off =
     ∙ sym (head_value_is w)
 
 pub at_head : (w : World) (name : List ℕ) → bytes_eq name head_name ≡ true → value_at w name ≡ head_value w
-at_head w name is = unfold value_at in rw is refl
+at_head w name is = unfold value_at in unfold end_at in rw is refl
 
 pub at_other : (w : World) (name : List ℕ) → bytes_eq name head_name ≡ false → value_at w name ≡ value_within 6 w name name
-at_other w name is = unfold value_at in rw is refl
+at_other w name is = unfold value_at in unfold end_at in rw is refl
 
 -- a name keeps its value where no file through which it leads is changed
 pub all_kept : (w after : World) (name other : List ℕ) → ((m : List ℕ) → IsRefName m → bytes_eq m name ≡ false → IsSame w after m) → IsRefName other → leads_through w other name ≡ false → value_at after other ≡ value_at w other

@@ -24,8 +24,9 @@ use Rattle.ref_store.specs.Changes.{deleted, deleted_from, in_way_of, loose_remo
 use Rattle.ref_store.specs.declared.fault.RefFault.{RefFault}
 use Rattle.ref_store.specs.declared.fault.RefFault.TheVariants.{BadHead}
 use Rattle.ref_store.specs.Paths.{leads_through}
-use Rattle.ref_store.specs.Values.{head_at, head_file, head_text, head_value, led, packed_at, value_at, value_within}
-use Rattle.ref_store.proofs.Keeping.{head_same, all_kept, at_head, at_other, head_opened, head_there, head_value_is, same_delete, same_logged, same_set, same_then}
+use Rattle.ref_store.specs.Values.{head_at, head_file, head_text, packed_at, value_at}
+use Rattle.ref_store.proofs.Chains.{head_value, head_value_is, led, value_within}
+use Rattle.ref_store.proofs.Keeping.{head_same, all_kept, at_head, at_other, head_opened, head_there, same_delete, same_logged, same_set, same_then}
 use Rattle.ref_store.proofs.ValueLaws.{ok_inj, packed_at_to, within_from, within_to}
 
 -- ---- HEAD

@@ -16,7 +16,8 @@ use Rattle.ref_text.proofs.LineLaws.{packed_again, packed_to}
 use Rattle.ref_text.proofs.LooseLaws.{head_from, head_to, loose_from, loose_to}
 use Rattle.ref_store.specs.declared.fault.RefFault.{RefFault}
 use Rattle.ref_store.specs.declared.fault.RefFault.TheVariants.{BadPacked, BadRef}
-use Rattle.ref_store.specs.Values.{decided, file_head, led, or_bad, packed_at, packed_value_at, value_within}
+use Rattle.ref_store.specs.Values.{file_head, or_bad, packed_at, packed_value_at}
+use Rattle.ref_store.proofs.Chains.{decided, ended, led, opened, value_within}
 
 -- ---- files
 
@@ -81,12 +82,6 @@ some_from_at on On value each (Branch other) is = each other is
 decided_from : (w : World) (on : List ℕ → Result Value RefFault) (On : List ℕ → Type 0) (name : List ℕ) (value : Value) → ((other : List ℕ) → On other → on other ≡ Ok value) → (o : Option (List ℕ)) → Decides w On name value o → decided w on name o ≡ Ok value
 decided_from w on On name value each (Some text) is = unfold file_head in rw (file_from name text is.0 is.1) (some_from_at on On value each is.0 is.2)
 decided_from w on On name value each None is = none_from w name value is.0 is.1 is.2
-
-pub opened : (n : ℕ) (w : World) (from name : List ℕ) → value_within (suc n) w from name ≡ decided w (value_within n w name) name (map.get w (ref_path name))
-opened n w from name = unfold value_within in refl
-
-ended : (w : World) (from name : List ℕ) → value_within zero w from name ≡ Err (BadRef from)
-ended w from name = unfold value_within in refl
 
 pub within_to : (n : ℕ) (w : World) (from name : List ℕ) (value : Value) → value_within n w from name ≡ Ok value → RefWithin n w name value
 within_to zero w from name value e = let k = ended w from name in absurd cc

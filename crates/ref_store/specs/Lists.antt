@@ -9,7 +9,7 @@ use Rattle.seq_outside.specs.Halts.{◌>>=◌}
 use Rattle.seq_outside.specs.Store.{files_below}
 use Rattle.ref_text.specs.ReadPacked.{Ref}
 use Rattle.ref_text.specs.Refs.{ref_path}
-use Rattle.ref_store.specs.Values.{packed_at, value_at}
+use Rattle.ref_store.specs.Values.{end_at, packed_at, value_by}
 use Rattle.ref_store.specs.declared.fault.RefFault.{RefFault}
 
 -- the value that a name has among these
@@ -37,15 +37,15 @@ is_named name = is_ref_name name
 abbrev pub loose_names : World → Name → List Name
 loose_names w folder = filter is_named (map (drop 5) (files_below w (ref_path folder)))
 
--- each of these names has its value
-unfoldable pub with_values : World → List Ref → List Name → Result (List Ref) RefFault
-with_values w refs [] = Ok refs
-with_values w refs (name ∷ names) = do
-  value ← value_at w name
-  with_values w (with_value refs name value) names
+-- each of these names has its value, by these packed refs
+unfoldable pub with_values : World → List Ref → List Ref → List Name → Result (List Ref) RefFault
+with_values w packed refs [] = Ok refs
+with_values w packed refs (name ∷ names) = do
+  end ← end_at w name
+  with_values w packed (with_value refs name (value_by packed end)) names
 
 -- the refs below a folder: the packed ones, over which the loose ones go
 unfoldable pub list_at : World → Name → Result (List Ref) RefFault
 list_at w folder = do
   packed ← packed_at w
-  with_values w (with_packed folder [] packed) (loose_names w folder)
+  with_values w packed (with_packed folder [] packed) (loose_names w folder)

@@ -45,31 +45,47 @@ packed_value_at w name = do
 unfoldable pub file_head : Name → Text → Result Head RefFault
 file_head name text = or_stop (file_of name text) (BadRef name)
 
--- the value that a file gives, or that of the name to which it leads
-abbrev pub led : (Name → Result (Option Id) RefFault) → Head → Result (Option Id) RefFault
-led on (Detached id) = Ok (Some id)
-led on (Branch other) = on other
+-- an id to which a file leads, or where the name leads that it has
+abbrev pub goes_on : (Name → Result Head RefFault) → Head → Result Head RefFault
+goes_on on (Detached id) = Ok (Detached id)
+goes_on on (Branch other) = on other
 
--- a loose file decides, else the packed refs
-abbrev pub decided : World → (Name → Result (Option Id) RefFault) → Name → Option Text → Result (Option Id) RefFault
-decided w on name (Some text) = do
+-- a loose file leads on, a name without one is an end
+abbrev pub followed : (Name → Result Head RefFault) → Name → Option Text → Result Head RefFault
+followed on name (Some text) = do
   head ← file_head name text
-  led on head
-decided w on name None = packed_value_at w name
+  goes_on on head
+followed on name None = Ok (Branch name)
 
--- the value of a name to which one file leads, where so many files may be read
-unfoldable pub value_within : ℕ → World → Name → Name → Result (Option Id) RefFault
-value_within zero w from name = Err (BadRef from)
-value_within (suc n) w from name = decided w (value_within n w name) name (map.get w (ref_path name))
+-- where the loose files of a name lead, to which one file leads: to an id, or to a name without a file; so many may be read
+unfoldable pub end_within : ℕ → World → Name → Name → Result Head RefFault
+end_within zero w from name = Err (BadRef from)
+end_within (suc n) w from name = followed (end_within n w name) name (map.get w (ref_path name))
 
-unfoldable pub head_value : World → Result (Option Id) RefFault
-head_value w = do
+unfoldable pub head_end : World → Result Head RefFault
+head_end w = do
   head ← head_at w
-  led (value_within 5 w head_name) head
+  goes_on (end_within 5 w head_name) head
 
--- the value of a name: the loose one, which may lead on five times; else the packed one
+-- where the loose files of a name lead, which may lead on five times
+unfoldable pub end_at : World → Name → Result Head RefFault
+end_at w name = if bytes_eq name head_name then head_end w else end_within 6 w name name
+
+-- the value of an end, by these packed refs
+abbrev pub value_by : List Ref → Head → Option Id
+value_by refs (Detached id) = Some id
+value_by refs (Branch name) = packed_value refs name
+
+-- packed refs are read only for a name without a file
+unfoldable pub settled : World → Head → Result (Option Id) RefFault
+settled w (Detached id) = Ok (Some id)
+settled w (Branch name) = packed_value_at w name
+
+-- the value of a name: that to which its loose files lead, else the packed one
 unfoldable pub value_at : World → Name → Result (Option Id) RefFault
-value_at w name = if bytes_eq name head_name then head_value w else value_within 6 w name name
+value_at w name = do
+  end ← end_at w name
+  settled w end
 
 -- no fault is in the way of the value, if there is one
 abbrev pub HasValue : World → Name → Option Id → Type 0

@@ -10,7 +10,7 @@ ghost use Rattle.seq_outside.specs.Halts.{Gives, halt_cause};
 ghost use Rattle.seq_outside.specs.Seen.{Reads, store_cause};
 
 use crate::fault::RefFault;
-use crate::read::{packed_refs, resolve};
+use crate::read::{end_of_name, packed_refs, value_by};
 use seq_base::{Bytes, Id, is_ref_name, lies_below};
 use seq_outside::{Halt, Store, StoreError};
 use std::alloc::{AllocError, Global};
@@ -145,17 +145,18 @@ fn list_of(alloc: Global, mut refs: BTreeMap<Bytes, Id>) -> Result<Vec<(Bytes, I
 fn with_values<S: Store>(
     alloc: Global,
     store: &mut S,
+    packed: &[(Bytes, Id)],
     mut refs: BTreeMap<Bytes, Id>,
     names: &[Bytes],
 ) -> Result<BTreeMap<Bytes, Id>, Halt<RefFault>>
     requires { AllByRecursion IsRefName names.now }
-    ensures gives { S.told → Gives (λ refs. refs.entries) result (with_values_of (S.seen store.old).content refs.entries names.now) }
+    ensures gives { S.told → Gives (λ refs. refs.entries) result (with_values_of (S.seen store.old).content packed.now refs.entries names.now) }
     ensures reads { Reads S.told halt_cause result (S.seen store.old) (S.seen store.new) }
 {
     let mut rest = names;
     while let [name, after @ ..] = rest {
-        let value = resolve(alloc, store, name.as_slice())?;
-        set_value(&mut refs, name.clone()?, value)?;
+        let end = end_of_name(alloc, store, name.as_slice())?;
+        set_value(&mut refs, name.clone()?, value_by(packed, &end))?;
         rest = after;
     }
     Ok(refs)
@@ -170,17 +171,17 @@ fn refs_below<S: Store>(
 ) -> Result<BTreeMap<Bytes, Id>, Halt<RefFault>>
     requires { IsStorePath (ref_path folder.now) }
     ensures gives { S.told → Gives (λ refs. refs.entries) result
-        (with_values_of (S.seen store.old).content (with_packed folder.now [] packed.now) (loose_names_in (S.seen store.old).content folder.now)) }
+        (with_values_of (S.seen store.old).content packed.now (with_packed folder.now [] packed.now) (loose_names_in (S.seen store.old).content folder.now)) }
     ensures reads { Reads S.told halt_cause result (S.seen store.old) (S.seen store.new) }
 {
     let names = loose_names(alloc, store, folder)?;
     let refs = packed_below(alloc, folder, packed)?;
-    with_values(alloc, store, refs, &names)
+    with_values(alloc, store, packed, refs, &names)
 }
 
 /// The refs below a folder as `refs/heads`, with their values, in the byte order of their names (git-for-each-ref(1)). A ref that leads
-/// to none has no value and is left out, and a file whose path is no name of a ref is passed over. The packed refs are read first, and
-/// again only for a loose ref that leads to a packed one: BadPacked with their first bad line; then BadRef of the first name whose file, or
+/// to none has no value and is left out, and a file whose path is no name of a ref is passed over. The packed refs are read
+/// first, and once: BadPacked with their first bad line; then BadRef of the first name whose file, or
 /// one to which it leads, is none of a ref.
 #[tactic(auto, unfolding(crate::specs::Lists::list_at))]
 pub fn list<S: Store>(

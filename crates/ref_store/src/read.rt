@@ -2,7 +2,7 @@
 
 ghost use Rattle.std.specs.FinMap as map;
 ghost use Rattle.std.specs.Prelude.{◌≡◌, IfOk, IsErrOf, [], unwrap_or};
-ghost use Rattle.ref_store.specs.Values.{file_head as file_head_of, head_at, head_text, head_value as head_value_of, log_at, or_bad, packed_at, packed_value_at, value_at, value_within};
+ghost use Rattle.ref_store.specs.Values.{end_at as end_of, end_within, file_head as file_head_of, head_at, head_end as head_end_of, head_text, log_at, or_bad, packed_at, packed_value_at, settled as settled_of, value_at, value_by as value_by_of};
 ghost use Rattle.ref_store.specs.declared.fault.RefFault.TheVariants.{BadLog, BadPacked};
 ghost use Rattle.ref_text.specs.Faults.{GivesHead};
 ghost use Rattle.ref_text.specs.Heads.{IsHeadValue};
@@ -131,17 +131,17 @@ fn file_head(alloc: Global, name: &[u8], text: &[u8]) -> Result<Head, Halt<RefFa
     }
 }
 
-/// The value of a name to which one file leads, where so many files may be read.
+/// Where the files of a name lead, to which one file leads, where so many may be read.
 #[tactic(auto, using(crate::proofs::Chains::chain_steps))]
-fn value_from<S: Store>(
+fn end_from<S: Store>(
     alloc: Global,
     store: &mut S,
     left: usize,
     from: &[u8],
     name: &[u8],
-) -> Result<Option<Id>, Halt<RefFault>>
+) -> Result<Head, Halt<RefFault>>
     requires { IsRefName name.now }
-    ensures gives { S.told → Gives (λ id. id) result (value_within left (S.seen store.old).content from.now name.now) }
+    ensures gives { S.told → Gives (λ head. head) result (end_within left (S.seen store.old).content from.now name.now) }
     ensures reads { Reads S.told halt_cause result (S.seen store.old) (S.seen store.new) }
 {
     if left == 0 {
@@ -151,22 +151,60 @@ fn value_from<S: Store>(
     }
     let path = ref_file(alloc, name)?;
     let Some(text) = store.get(alloc, &path)? else {
-        return packed_value(alloc, store, name);
+        return Ok(Head::Branch(name_of(alloc, name)?));
     };
     match file_head(alloc, name, &text)? {
-        Head::Detached(id) => Ok(Some(id)),
-        Head::Branch(other) => value_from(alloc, store, left - 1, name, other.as_slice()),
+        Head::Detached(id) => Ok(Head::Detached(id)),
+        Head::Branch(other) => end_from(alloc, store, left - 1, name, other.as_slice()),
     }
 }
 
-#[tactic(auto, unfolding(crate::specs::Values::head_value))]
-fn head_value<S: Store>(alloc: Global, store: &mut S) -> Result<Option<Id>, Halt<RefFault>>
-    ensures gives { S.told → Gives (λ id. id) result (head_value_of (S.seen store.old).content) }
+#[tactic(auto, unfolding(crate::specs::Values::head_end))]
+fn head_end<S: Store>(alloc: Global, store: &mut S) -> Result<Head, Halt<RefFault>>
+    ensures gives { S.told → Gives (λ head. head) result (head_end_of (S.seen store.old).content) }
     ensures reads { Reads S.told halt_cause result (S.seen store.old) (S.seen store.new) }
 {
     match head(alloc, store)? {
-        Head::Detached(id) => Ok(Some(id)),
-        Head::Branch(branch) => value_from(alloc, store, 5, b"HEAD", branch.as_slice()),
+        Head::Detached(id) => Ok(Head::Detached(id)),
+        Head::Branch(branch) => end_from(alloc, store, 5, b"HEAD", branch.as_slice()),
+    }
+}
+
+/// Where the loose files of a name lead: to an id, or to a name without a file. BadHead and BadRef as of `resolve`.
+#[tactic(auto, unfolding(crate::specs::Values::end_at))]
+pub(crate) fn end_of_name<S: Store>(
+    alloc: Global,
+    store: &mut S,
+    name: &[u8],
+) -> Result<Head, Halt<RefFault>>
+    requires { IsRefName name.now }
+    ensures gives { S.told → Gives (λ head. head) result (end_of (S.seen store.old).content name.now) }
+    ensures reads { Reads S.told halt_cause result (S.seen store.old) (S.seen store.new) }
+{
+    if name == b"HEAD".as_slice() {
+        return head_end(alloc, store);
+    }
+    end_from(alloc, store, 6, name, name)
+}
+
+/// The value of an end, by these packed refs.
+pub(crate) fn value_by(packed: &[(Bytes, Id)], end: &Head) -> Option<Id>
+    ensures { result ≡ value_by_of packed.now end.now }
+{
+    match end {
+        Head::Detached(id) => Some(*id),
+        Head::Branch(name) => value_in(packed, name.as_slice()),
+    }
+}
+
+#[tactic(auto, unfolding(crate::specs::Values::settled))]
+fn settled<S: Store>(alloc: Global, store: &mut S, end: &Head) -> Result<Option<Id>, Halt<RefFault>>
+    ensures gives { S.told → Gives (λ id. id) result (settled_of (S.seen store.old).content end.now) }
+    ensures reads { Reads S.told halt_cause result (S.seen store.old) (S.seen store.new) }
+{
+    match end {
+        Head::Detached(id) => Ok(Some(*id)),
+        Head::Branch(name) => packed_value(alloc, store, name.as_slice()),
     }
 }
 
@@ -184,10 +222,8 @@ pub fn resolve<S: Store>(
     ensures gives { S.told → Gives (λ id. id) result (value_at (S.seen store.old).content name.now) }
     ensures reads { Reads S.told halt_cause result (S.seen store.old) (S.seen store.new) }
 {
-    if name == b"HEAD".as_slice() {
-        return head_value(alloc, store);
-    }
-    value_from(alloc, store, 6, name, name)
+    let end = end_of_name(alloc, store, name)?;
+    settled(alloc, store, &end)
 }
 
 fn log_in(alloc: Global, text: &[u8]) -> Result<Vec<LogLine>, Halt<RefFault>>

@@ -1,5 +1,5 @@
 -- The first of some names that has a value.
-use Rattle.std.proofs.Common.{◌≡◌, ◌⊎◌, inl, inr, ℕ, Bool, true, false, cond, List, [], ◌∷◌, ◌++◌, Option, Some, None, Result, Ok, Err, refl, sym, ap, ◌∙◌}
+use Rattle.std.proofs.Common.{◌≡◌, inl, inr, ℕ, Bool, true, false, cond, List, [], ◌∷◌, Option, Some, None, Result, Ok, Err, refl, sym, ap}
 use Rattle.seq_base.specs.RefNames.{is_ref_name}
 use Rattle.seq_base.specs.World.{World}
 use Rattle.seq_outside.specs.Halts.{◌>>=◌, for_reason}
@@ -10,7 +10,7 @@ use Rattle.ref_text.specs.Refs.{RefAt}
 use Rattle.rev_names.proofs.Behind.{ok_inj}
 use Rattle.rev_names.specs.Bases.{first_ref, or_later, value_of}
 use Rattle.rev_names.specs.Faults.{bad_ref}
-use Rattle.rev_names.specs.Laws.{AllHaveNone, HasNone, IsFirstOf, IsFirstRef}
+use Rattle.rev_names.specs.Laws.{HasNone, IsFirstOf}
 use Rattle.rev_names.specs.declared.fault.RevFault.{RevFault}
 use Rattle.rev_names.specs.declared.refs.FoundRef.{FoundRef}
 

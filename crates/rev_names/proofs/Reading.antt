@@ -1,8 +1,8 @@
 -- What a word names is a commit that can be read.
 use Rattle.std.proofs.Common.{◌≡◌, ℕ, zero, suc, Bool, true, false, cond, List, [], ◌∷◌, Option, Some, None, Result, Ok, Err, refl, sym, ap, subst, ◌∙◌}
-use Rattle.std.specs.Prelude.{◌-◌, ◌==◌, slice_get, nat_lt, length}
+use Rattle.std.specs.Prelude.{◌-◌, ◌==◌, slice_get}
 use Rattle.seq_base.specs.World.{World}
-use Rattle.seq_outside.specs.Halts.{◌>>=◌, for_reason, or_stop, stop_if}
+use Rattle.seq_outside.specs.Halts.{◌>>=◌, for_reason, or_stop}
 use Rattle.seq_outside.specs.declared.lack.Lack.{Lack}
 use Rattle.object_text.specs.declared.commit.Commit.{Commit as CommitFields}
 use Rattle.object_text.specs.declared.object.Kind.{Kind}

@@ -1,5 +1,5 @@
 -- The object that the base of a word names (gitrevisions(7), "<refname>", "<sha1>" and "<refname>@{<n>}").
-use Rattle.std.specs.Prelude.{◌≡◌, ℕ, not, if◌then◌else◌, List, [], ◌∷◌, ◌++◌, codes, reverse, slice_get, is_some, Option, Some, None, Result, Ok, Err}
+use Rattle.std.specs.Prelude.{ℕ, not, if◌then◌else◌, List, [], ◌∷◌, ◌++◌, codes, reverse, slice_get, is_some, Option, Some, None, Result, Ok, Err}
 use Rattle.std.specs.Option.{option_map}
 use Rattle.std.specs.Str.{bytes_eq}
 use Rattle.seq_base.specs.RefNames.{is_ref_name}

@@ -1,7 +1,6 @@
 -- The commit that an object leads to, and those before it (gitrevisions(7), "<rev>^<n>", "<rev>~<n>" and "<rev>^{<type>}").
-use Rattle.std.specs.Prelude.{◌≡◌, ℕ, zero, suc, ◌-◌, ◌==◌, if◌then◌else◌, List, [], ◌∷◌, slice_get, Option, Result, Ok, Err}
+use Rattle.std.specs.Prelude.{ℕ, zero, suc, ◌-◌, ◌==◌, if◌then◌else◌, List, [], ◌∷◌, slice_get, Result, Ok, Err}
 use Rattle.object_text.specs.Store.{named_of}
-use Rattle.object_text.specs.declared.commit.Commit.{Commit as CommitFields}
 use Rattle.object_text.specs.declared.object.Kind.{Kind}
 use Rattle.object_text.specs.declared.object.Kind.TheVariants.{Blob, Tree, Commit, Tag}
 use Rattle.objects.specs.Named.{commit_named, commit_spelled, object_named}

@@ -1,6 +1,5 @@
 -- What the commit that a word names has to do with the store, in the words of the layers below.
-use Rattle.std.specs.Prelude.{◌≡◌, ◌⊎◌, ◌≤◌, false, List, [], ◌∷◌, ◌++◌, length, Option, Some, None, Result, Ok, Err}
-use Rattle.object_text.specs.Store.{commit_at}
+use Rattle.std.specs.Prelude.{◌≡◌, ◌⊎◌, false, List, [], ◌∷◌, ◌++◌, Option, Some, None, Ok}
 use Rattle.object_text.specs.declared.commit.Commit.{Commit as CommitFields}
 use Rattle.objects.specs.Named.{commit_named}
 use Rattle.ref_text.specs.Refs.{RefAt}

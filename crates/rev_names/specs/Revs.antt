@@ -1,5 +1,5 @@
 -- The commit that a word names (gitrevisions(7)).
-use Rattle.std.specs.Prelude.{◌≡◌, Result, Ok, Err}
+use Rattle.std.specs.Prelude.{Result}
 use Rattle.rev_text.specs.Revs.{Said, rev_of}
 use Rattle.seq_base.specs.Words.{Id, Text}
 use Rattle.seq_base.specs.World.{World}

@@ -1,5 +1,5 @@
 -- What a folder holds under a name has a path, where the name goes on behind the folder's.
-use Rattle.std.proofs.Common.{◌≡◌, ◌⊎◌, ℕ, ◌+◌, ◌<◌, Bool, true, false, cond, ◌∷◌, ◌++◌, [], List, length, Some, None, refl, ap, ◌∙◌, append_assoc, arith, length-append}
+use Rattle.std.proofs.Common.{◌≡◌, ℕ, ◌+◌, ◌<◌, Bool, true, false, cond, ◌∷◌, ◌++◌, [], List, length, Some, None, refl, ap, ◌∙◌, arith, length-append}
 use Rattle.std.proofs.lemmas.Str.{IsUtf8-append}
 use Rattle.std.specs.Str.{IsUtf8}
 use Rattle.seq_base.specs.Paths.{IsPath, first_bad, is_part, parts}

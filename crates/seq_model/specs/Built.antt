@@ -9,15 +9,15 @@ use Rattle.seq_model.specs.Checks.{is_repository}
 use Rattle.seq_model.specs.Picked.{picked}
 use Rattle.seq_model.specs.declared.command.Command.{Command}
 use Rattle.seq_model.specs.declared.command.Command.TheVariants.{Start}
-use Rattle.seq_model.specs.declared.command.Empty.{Empty}
-use Rattle.seq_model.specs.declared.command.Empty.TheVariants.{Stop}
-use Rattle.seq_model.specs.declared.command.Options.{Options}
+use Rattle.state_text.specs.declared.options.Empty.{Empty}
+use Rattle.state_text.specs.declared.options.Empty.TheVariants.{Stop}
+use Rattle.state_text.specs.declared.options.Options.{Options}
 use Rattle.seq_model.specs.declared.command.StartWords.{StartWords}
 use Rattle.seq_model.specs.declared.denial.Denial.{Denial}
 use Rattle.seq_model.specs.declared.denial.Denial.TheVariants.{Refused}
 use Rattle.seq_model.specs.declared.refusal.Refusal.TheVariants.{NotBuilt}
-use Rattle.seq_model.specs.declared.verb.Verb.{Verb}
-use Rattle.seq_model.specs.declared.verb.Verb.TheVariants.{CherryPick}
+use Rattle.state_text.specs.declared.verb.Verb.{Verb}
+use Rattle.state_text.specs.declared.verb.Verb.TheVariants.{CherryPick}
 
 abbrev pub is_stop : Empty → Bool
 is_stop Stop = true

@@ -8,17 +8,17 @@ use Rattle.seq_model.specs.Faults.{empty_named, parent_number, read_by, shell_co
 use Rattle.seq_model.specs.Rows.{cat_rows, cherry_pick_rows, commit_rows, paths_rows, rebase_rows, revert_rows}
 use Rattle.seq_model.specs.declared.command.Command.{Command}
 use Rattle.seq_model.specs.declared.command.Command.TheVariants.{Start, Act, Plumb}
-use Rattle.seq_model.specs.declared.command.Empty.{Empty}
-use Rattle.seq_model.specs.declared.command.Empty.TheVariants.{Drop, Keep, Stop}
-use Rattle.seq_model.specs.declared.command.Options.{Options}
+use Rattle.state_text.specs.declared.options.Empty.{Empty}
+use Rattle.state_text.specs.declared.options.Empty.TheVariants.{Drop, Keep, Stop}
+use Rattle.state_text.specs.declared.options.Options.{Options}
 use Rattle.seq_model.specs.declared.command.PlumbWords.TheVariants.{Init, Add, Rm, Commit, Status, Cat}
 use Rattle.seq_model.specs.declared.command.StartWords.{StartWords}
 use Rattle.seq_model.specs.declared.usage.UsageFault.{UsageFault}
 use Rattle.seq_model.specs.declared.usage.UsageFault.TheVariants.{NoVerb, UnknownVerb}
 use Rattle.seq_model.specs.declared.verb.Action.{Action}
 use Rattle.seq_model.specs.declared.verb.Action.TheVariants.{Continue, Skip, Abort, Quit, EditTodo}
-use Rattle.seq_model.specs.declared.verb.Verb.{Verb}
-use Rattle.seq_model.specs.declared.verb.Verb.TheVariants.{Rebase, CherryPick, Revert}
+use Rattle.state_text.specs.declared.verb.Verb.{Verb}
+use Rattle.state_text.specs.declared.verb.Verb.TheVariants.{Rebase, CherryPick, Revert}
 
 -- the value of an option or of an argument
 abbrev pub value_given : List Given → List ℕ → Option (List ℕ)

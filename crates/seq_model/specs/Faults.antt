@@ -8,8 +8,8 @@ use Rattle.std.specs.Str.Parse.{digits_value}
 use Rattle.todo_text.specs.Words.{from_word}
 use Rattle.seq_model.specs.Given.{Given, given_by, is_given}
 use Rattle.seq_model.specs.Rows.{Row, is_action, is_needed}
-use Rattle.seq_model.specs.declared.command.Empty.{Empty}
-use Rattle.seq_model.specs.declared.command.Empty.TheVariants.{Drop, Keep, Stop}
+use Rattle.state_text.specs.declared.options.Empty.{Empty}
+use Rattle.state_text.specs.declared.options.Empty.TheVariants.{Drop, Keep, Stop}
 use Rattle.seq_model.specs.declared.form.Form.{Form}
 use Rattle.seq_model.specs.declared.form.Form.TheVariants as form
 use Rattle.seq_model.specs.declared.usage.UsageFault.{UsageFault}

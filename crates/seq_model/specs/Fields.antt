@@ -1,5 +1,5 @@
 -- How a report spells its fields: one space before each.
-use Rattle.std.specs.Prelude.{ℕ, ◌==◌, if◌then◌else◌, List, [], ◌∷◌, ◌++◌, Option, Some, None, codes}
+use Rattle.std.specs.Prelude.{ℕ, ◌==◌, if◌then◌else◌, [], ◌∷◌, ◌++◌, Option, Some, None, codes}
 use Rattle.std.specs.Fmt.{decimal}
 use Rattle.seq_base.specs.Words.{Id, Text}
 use Rattle.hex.specs.Hex.{encode_lower}

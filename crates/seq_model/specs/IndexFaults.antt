@@ -1,5 +1,5 @@
 -- What is wrong with an index.
-use Rattle.std.specs.Prelude.{ℕ, List, codes, ◌++◌}
+use Rattle.std.specs.Prelude.{codes, ◌++◌}
 use Rattle.seq_base.specs.Words.{Text}
 use Rattle.index_file.specs.declared.fault.IndexFault.{IndexFault}
 use Rattle.index_file.specs.declared.fault.IndexFault.TheVariants.{Magic, Version, Count, Name, Order, Extension, Hash, Memory}

@@ -1,5 +1,5 @@
 -- The names of what has a limit.
-use Rattle.std.specs.Prelude.{ℕ, List, codes}
+use Rattle.std.specs.Prelude.{codes}
 use Rattle.seq_base.specs.Words.{Text}
 use Rattle.seq_outside.specs.declared.limit.LimitWhat.{LimitWhat}
 use Rattle.seq_outside.specs.declared.limit.LimitWhat.TheVariants.{ObjectBytes, TreeDepth, IndexEntries, TodoLines, TodoBytes, Labels, Parents, Commits, Jobs}

@@ -1,5 +1,5 @@
 -- Why a line is blocked.
-use Rattle.std.specs.Prelude.{ℕ, List, codes, [], ◌++◌}
+use Rattle.std.specs.Prelude.{codes, [], ◌++◌}
 use Rattle.seq_base.specs.Words.{Text}
 use Rattle.seq_model.specs.Fields.{bytes_field, id_field, found_field, limit_fields}
 use Rattle.seq_model.specs.declared.reason.Reason.{Reason}

@@ -1,5 +1,5 @@
 -- Why an invocation is refused.
-use Rattle.std.specs.Prelude.{ℕ, List, codes, [], ◌++◌}
+use Rattle.std.specs.Prelude.{codes, [], ◌++◌}
 use Rattle.seq_base.specs.Words.{Text}
 use Rattle.seq_model.specs.Fields.{bytes_field, number_field, id_field, found_field, exit_field, todo_bad_fields}
 use Rattle.seq_model.specs.IndexFaults.{index_fault_fields}

@@ -1,6 +1,6 @@
 -- What an invocation prints: the outcome's name in lower case, with `-` before each later capital, then the inner kind in the
 -- same way, then the fields in order, and a line feed.
-use Rattle.std.specs.Prelude.{ℕ, List, [], ◌∷◌, ◌++◌, Option, Some, None, codes}
+use Rattle.std.specs.Prelude.{List, [], ◌∷◌, ◌++◌, Option, Some, None, codes}
 use Rattle.seq_base.specs.Words.{Id, Path, Text}
 use Rattle.seq_model.specs.Fields.{bytes_field, id_field, limit_fields}
 use Rattle.seq_model.specs.Refusals.{refusal_name, refusal_fields}

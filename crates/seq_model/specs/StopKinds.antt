@@ -1,5 +1,5 @@
 -- Why a list stops.
-use Rattle.std.specs.Prelude.{ℕ, List, codes, [], ◌∷◌, ◌++◌}
+use Rattle.std.specs.Prelude.{codes, [], ◌∷◌, ◌++◌}
 use Rattle.seq_base.specs.Words.{Text}
 use Rattle.seq_model.specs.Fields.{bytes_field, id_field, found_field, exit_field, todo_bad_fields}
 use Rattle.seq_model.specs.Reasons.{reason_name, reason_fields}

@@ -1,5 +1,5 @@
 -- The names of what is wrong with a line of the todo.
-use Rattle.std.specs.Prelude.{ℕ, List, codes}
+use Rattle.std.specs.Prelude.{codes}
 use Rattle.seq_base.specs.Words.{Text}
 use Rattle.todo_text.specs.declared.todo_kind.TodoKind.{TodoKind}
 use Rattle.todo_text.specs.declared.todo_kind.TodoKind.TheVariants.{Command, Missing, Extra, Label, RefName, Octopus, NoEarlier, NoSuchCommit, MergePicked, OwnBranch, NotBuilt}

@@ -14,7 +14,7 @@ mod stop;
 mod usage;
 mod verb;
 
-pub use command::{Command, Empty, Options, PlumbWords, StartWords, Values};
+pub use command::{Command, PlumbWords, StartWords, Values};
 pub use committer::Committer;
 pub use denial::{Denial, refused};
 pub use form::Form;
@@ -23,7 +23,8 @@ pub use place::Place;
 pub use reason::Reason;
 pub use refusal::Refusal;
 pub use seq_outside::LimitWhat;
+pub use state_text::{Empty, Options, Verb};
 pub use stop::StopKind;
 pub use todo_text::TodoKind;
 pub use usage::UsageFault;
-pub use verb::{Action, Verb};
+pub use verb::Action;

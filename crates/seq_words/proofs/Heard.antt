@@ -9,7 +9,7 @@ use Rattle.clap.proofs.WalkLemmas.{both}
 use Rattle.clap.specs.Simple.{App, HasMatchesOf, built, entered, is_simple, matches_of, names_of}
 use Rattle.clap.specs.Takes.{built_takes, default_passes, entered_passes, is_valid, level_passes, takes}
 use Rattle.clap.specs.Walk as clap
-use Rattle.clap.specs.Walk.{Names, Rule, Text, Walk, finished, has_row, is_empty, nothing_held, rows_after, rows_of, settled, walk, walk_from, with_default, idle}
+use Rattle.clap.specs.Walk.{Names, Rule, Text, finished, has_row, is_empty, nothing_held, rows_after, settled, walk, with_default, idle}
 use Rattle.clap.specs.declared.parser.matches.ArgMatches.{ArgMatches}
 use Rattle.seq_model.specs.Faults.{fault_of, judged}
 use Rattle.seq_model.specs.Given.{Expected, Given, Step, any, any_word, argument, argument_row, as_argument, attached, awaits, begins_with, dashed, given_behind, gives, has_ended, if_single, is_dashed, is_equals, is_long, is_single, long_value, named, row_named, step, value_of, with_value}

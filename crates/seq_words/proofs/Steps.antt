@@ -4,7 +4,7 @@ use Rattle.std.specs.Str.{bytes_eq}
 use Rattle.std.specs.List.{find, before_first, after_first, position_or_len}
 use Rattle.std.specs.Prelude.{IfSome, if◌then◌else◌, option_and_then, option_map}
 use Rattle.std.proofs.lemmas.Slice.Eq.{bytes_eq-Decides}
-use Rattle.seq_model.specs.Given.{Given, Expected, any, value_of, argument, any_word, argument_row, as_argument, attached, awaits, begins_with, dashed, gives, has_ended, is_dashed, is_equals, is_long, long_value as long_value_of, named, row_named, short_value as short_value_of, step, with_value}
+use Rattle.seq_model.specs.Given.{Expected, any, value_of, argument, argument_row, as_argument, attached, begins_with, gives, is_dashed, is_equals, long_value as long_value_of, named, row_named, short_value as short_value_of, with_value}
 use Rattle.seq_model.specs.Given as model
 use Rattle.seq_model.specs.Rows.{Row, is_argument, is_flag}
 use Rattle.clap.specs.Lexer.{has_byte, long_of}

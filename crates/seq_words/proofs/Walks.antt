@@ -5,7 +5,7 @@ use Rattle.std.specs.Prelude.{slice_get}
 use Rattle.seq_model.specs.Given.{is_dashed}
 use Rattle.clap.specs.Walk as clap
 use Rattle.clap.specs.Lexer.{long_of, short_of}
-use Rattle.clap.specs.Walk.{Held, Rule, Text, Waiting, Walk, idle, positional, option, walked, bundle_met, arg_by_id, arg_by_index, arg_by_long, arg_by_short, settled_rows, with_values}
+use Rattle.clap.specs.Walk.{Held, Text, Waiting, Walk, idle, positional, option, walked, bundle_met, arg_by_id, arg_by_index, arg_by_long, arg_by_short, settled_rows, with_values}
 use Rattle.clap.specs.Takes.{turn_passes, settle_passes, flags_pass}
 use Rattle.clap.specs.declared.builder.value_parser.Reading.TheVariants.{AsWritten}
 use Rattle.clap.specs.declared.parser.matches.ValueSource.TheVariants.{CommandLine}

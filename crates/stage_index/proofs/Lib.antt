@@ -8,3 +8,4 @@ pub mod Indexing
 pub mod Listing
 pub mod Stagings
 pub mod Joining
+pub mod OrderedStages

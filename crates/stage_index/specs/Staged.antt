@@ -1,10 +1,12 @@
 -- The stages of a path, set (gitformat-index(5), "Index entry"; git-update-index(1), "--index-info").
-use Rattle.std.specs.Prelude.{ℕ, ◌+◌, not, if◌then◌else◌, List, [], ◌∷◌, ◌++◌, filter, Option, Some, None}
+use Rattle.std.specs.Prelude.{◌≡◌, false, ◌||◌, ℕ, ◌+◌, not, if◌then◌else◌, List, [], ◌∷◌, ◌++◌, filter, Option, Some, None}
+use Rattle.std.specs.List.{AllByRecursion}
 use Rattle.std.specs.Str.{bytes_eq}
 use Rattle.seq_base.specs.PathMaps.{is_less}
 use Rattle.seq_base.specs.Words.{Path}
 use Rattle.seq_base.specs.declared.map.Entry.{Entry}
 use Rattle.index_file.specs.declared.entry.IndexEntry.{IndexEntry}
+use Rattle.index_file.specs.Entries.{holds}
 
 -- the entries of a path
 abbrev pub stages_at : List IndexEntry → Path → List IndexEntry
@@ -36,3 +38,7 @@ placed (e ∷ es) path new = if is_less path e.path then new ++ e ∷ es else e 
 -- the path has these stages, and no other
 abbrev pub with_stages : List IndexEntry → Path → List (Option Entry) → List IndexEntry
 with_stages es path stages = placed (others_of es path) path (staged_as path stages)
+
+-- no entry of the first would be a folder of one of the second, or lie below it, where both are merged
+abbrev pub NoneClashes : List IndexEntry → List IndexEntry → Type 0
+NoneClashes es new = AllByRecursion (λ e. AllByRecursion (λ n. holds e n || holds n e ≡ false) new) es

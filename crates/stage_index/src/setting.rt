@@ -2,8 +2,9 @@
 
 ghost use Rattle.std.specs.Prelude.{◌≡◌, ◌≤◌, ◌+◌, ◌++◌, IfOk, OnErr, OnOk, List, drop, length, take};
 ghost use Rattle.std.specs.Vec.{vec_capacity, vec_len};
+ghost use Rattle.index_file.specs.Entries.{IsInOrder};
 ghost use Rattle.index_file.specs.declared.entry.IndexEntry.{IndexEntry as EntryValue};
-ghost use Rattle.stage_index.specs.Staged.{at_stage, others_of, placed, staged_as, stages_at, with_stages};
+ghost use Rattle.stage_index.specs.Staged.{NoneClashes, at_stage, others_of, placed, staged_as, stages_at, with_stages};
 
 use index_file::IndexEntry;
 use seq_base::{Entry, Path, comes_before};
@@ -98,6 +99,7 @@ pub fn set_stages(
     // They follow from `set`.
     ensures stages { OnOk result (stages_at entries.new.items path.now ≡ staged_as path.now stages) }
     ensures others { OnOk result (others_of entries.new.items path.now ≡ others_of entries.old.items path.now) }
+    ensures in_order { OnOk result (IsInOrder entries.old.items → IsInOrder (staged_as path.now stages) → NoneClashes (others_of entries.old.items path.now) (staged_as path.now stages) → IsInOrder entries.new.items) }
 {
     let new = staged(alloc, path, &stages)?;
     entries.reserve(new.len())?;

@@ -1,7 +1,9 @@
 //! Tests of drafts over files in memory.
 
-use seq_memory::QuietStore;
+use seq_base::Bytes;
+use seq_memory::{Failing, MemStore, QuietStore};
 use seq_outside::{Changes, DraftStore, Store, StoreError};
+use std::alloc::Global;
 use std::test::Fail;
 
 fn is_there(found: Result<Option<Vec<u8>>, StoreError>, bytes: &[u8]) -> bool {
@@ -70,5 +72,62 @@ fn a_draft_is_listed(rt: HostRuntime) -> Result<(), Fail> {
         assert!(rt; path.as_slice() == name);
     }
     assert_eq!(rt; draft.list(alloc, b"")?.len(), 4);
+    Ok(())
+}
+
+fn fill(alloc: Global, store: &mut MemStore) -> Result<(), StoreError> {
+    store.put(alloc, b".git/index", b"0")?;
+    store.put(alloc, b".git/refs/heads/a", b"0")?;
+    store.put(alloc, b"b", b"0")
+}
+
+fn draft_and_make(alloc: Global, draft: &mut DraftStore<'_, MemStore>) -> Result<(), StoreError> {
+    let _was_there = draft.remove(alloc, b"b")?;
+    draft.put(alloc, b".git/index", b"1")?;
+    draft.put(alloc, b".git/objects/aa/bb", b"1")?;
+    draft.put(alloc, b".git/refs/heads/a", b"1")?;
+    draft.make(alloc)
+}
+
+fn holds(files: &[(Bytes, Bytes)], path: &[u8], bytes: &[u8]) -> bool {
+    files.iter().any(|file| file.0.as_slice() == path && file.1.as_slice() == bytes)
+}
+
+/// How many of the changes stand, the object's first, if they are the first so many.
+fn front_of(files: &[(Bytes, Bytes)]) -> Option<u8> {
+    let object = holds(files, b".git/objects/aa/bb", b"1");
+    let removal = !holds(files, b"b", b"0");
+    let index = holds(files, b".git/index", b"1");
+    let branch = holds(files, b".git/refs/heads/a", b"1");
+    match (object, removal, index, branch) {
+        (false, false, false, false) => Some(0),
+        (true, false, false, false) => Some(1),
+        (true, true, false, false) => Some(2),
+        (true, true, true, false) => Some(3),
+        (true, true, true, true) => Some(4),
+        _ => None,
+    }
+}
+
+// Whichever call of the store fails, the first so many changes stand, the object's before all others; and each front is seen.
+#[test]
+fn a_front_stands_where_the_store_fails(rt: HostRuntime) -> Result<(), Fail> {
+    let alloc = rt.alloc();
+    let mut fronts = Vec::new(alloc);
+    for call in 4..60 {
+        for keeps_new in [false, true] {
+            let mut store = MemStore::new(alloc, &[], &[Failing { call, keeps_new }])?;
+            fill(alloc, &mut store)?;
+            let mut changes = Changes::new(alloc);
+            let mut draft = DraftStore::new(&mut store, &mut changes);
+            let made = draft_and_make(alloc, &mut draft);
+            let front = front_of(store.content()).ok_or("no front")?;
+            assert!(rt; made.is_err() || front == 4);
+            fronts.push(front)?;
+        }
+    }
+    for front in 0..5u8 {
+        assert!(rt; fronts.contains(&front));
+    }
     Ok(())
 }

@@ -1,4 +1,4 @@
-//! Tests of the outside in memory: files, children, a clock and a sink, and drafts over them.
+//! Tests of what no case of `store_vectors` says: stores, children, a clock and a sink in memory, drafts, and a tree of many files.
 #![tactic(auto)]
 
 #[cfg(test)]
@@ -8,6 +8,10 @@ mod draft_tests;
 #[cfg(test)]
 mod memory_tests;
 #[cfg(test)]
+mod object_tests;
+#[cfg(test)]
 mod sink_tests;
 #[cfg(test)]
 mod spawner_tests;
+#[cfg(test)]
+mod tree_tests;

@@ -5,7 +5,7 @@ ghost use Rattle.seq_memory.specs.Children.{WriteStorePaths};
 
 use seq_base::Bytes;
 use seq_memory::{Answer, QuietSpawner, QuietStore, ScriptSpawner, Writes};
-use seq_outside::{ChildError, Exit, Job, Spawner, Store, Words};
+use seq_outside::{Changes, ChildError, DraftStore, Exit, Job, Spawner, Store, Words};
 use std::alloc::{AllocError, Global};
 use std::test::Fail;
 
@@ -80,5 +80,25 @@ fn scripted_calls_fail(rt: HostRuntime) -> Result<(), Fail> {
     assert!(rt; spawner.run(alloc, &mut store, &job(alloc, b"hook")?) == failed);
     assert_eq!(rt; spawner.log().len(), 4);
     assert_eq!(rt; spawner.jobs().len(), 2);
+    Ok(())
+}
+
+// The child finds `c`, which was drafted, and removes it; what else was drafted stands behind it.
+#[test]
+fn a_child_is_run_over_what_was_drafted(rt: HostRuntime) -> Result<(), Fail> {
+    let alloc = rt.alloc();
+    let mut store = QuietStore::new(alloc, &[])?;
+    let mut changes = Changes::new(alloc);
+    let mut draft = DraftStore::new(&mut store, &mut changes);
+    draft.put(alloc, b"c", b"6\n")?;
+    draft.put(alloc, b"d", b"7\n")?;
+    let mut spawner = QuietSpawner::new(answers(alloc)?);
+    assert!(rt; draft.run(alloc, &mut spawner, &job(alloc, b"editor")?)? == Ok(Exit::Killed));
+    draft.put(alloc, b"e", b"8\n")?;
+    let names: [&[u8]; 2] = [b"a", b"d"];
+    assert_eq!(rt; store.content().len(), 2);
+    for (file, name) in store.content().iter().zip(names) {
+        assert!(rt; file.0.as_slice() == name);
+    }
     Ok(())
 }

@@ -1,6 +1,6 @@
 -- The todo that makes merges again stands, at each commit, on the commit's own parents.
-use Rattle.std.proofs.Common.{◌≡◌, ℕ, suc, ◌+◌, ◌<◌, ◌≤◌, Bool, true, false, cond, not, ◌&&◌, List, [], ◌∷◌, ◌++◌, length, get_or, drop, Option, Some, None, Contains, is_some, refl, sym, ap, subst, ◌∙◌, arith, append_assoc, ◌/◌, ◌^◌}
-use Rattle.std.specs.Prelude.{◌==◌, nat_lt, codes, decimal}
+use Rattle.std.proofs.Common.{◌≡◌, ℕ, suc, ◌+◌, ◌<◌, ◌≤◌, Bool, true, false, cond, not, List, [], ◌∷◌, ◌++◌, length, get_or, drop, Option, Some, None, Contains, is_some, refl, sym, ap, subst, ◌∙◌, arith, append_assoc, ◌/◌, ◌^◌}
+use Rattle.std.specs.Prelude.{◌==◌, nat_lt, codes}
 use Rattle.std.specs.List.{list_all}
 use Rattle.std.specs.Str.{bytes_eq}
 use Rattle.std.proofs.lemmas.Bool.{lt-ltb}
@@ -8,13 +8,12 @@ use Rattle.std.proofs.lemmas.Slice.Eq.{bytes_eq-Decides}
 use Rattle.std.proofs.lemmas.Fmt.{decimal_injective}
 use Rattle.hex.specs.Hex.{encode_lower, encode_with, lower_digits}
 use Rattle.merge_base.specs.declared.graph.Node.{Node}
-use Rattle.merge_base.specs.Graphs.{first_missing, has, node_at}
+use Rattle.merge_base.specs.Graphs.{first_missing, node_at}
 use Rattle.todo_text.specs.declared.line.Line.{Line}
-use Rattle.todo_text.specs.declared.line.Line.TheVariants.{Pick, Reset, Label}
-use Rattle.todo_plan.specs.declared.fault.PlanFault.{PlanFault}
+use Rattle.todo_text.specs.declared.line.Line.TheVariants.{Reset}
 use Rattle.todo_plan.specs.declared.fault.PlanFault.TheVariants.{Octopus, NewRoot}
 use Rattle.todo_plan.specs.Commits.{pick_of}
-use Rattle.todo_plan.specs.Merges.{Numbers, commit_lines, counted, first_fault, is_among, is_apart, label_lines, label_name, lines_on, merge_of, merges_todo, name_by, name_of, named, numbered, parents_fault, range_lines, reset_lines}
+use Rattle.todo_plan.specs.Merges.{Numbers, commit_lines, counted, first_fault, is_among, label_lines, label_name, lines_on, merge_of, merges_todo, name_by, name_of, named, numbered, parents_fault, range_lines, reset_lines}
 use Rattle.todo_plan.specs.Places.{Names, ReadsHex, StandsOn, parents_in, parents_of, with_name}
 use Rattle.todo_plan.proofs.LinearLaws.{found_id}
 use Rattle.todo_plan.proofs.MergeCommits.{fits, goes, has_node}

@@ -12,9 +12,7 @@ use Rattle.todo_text.specs.declared.line.Line.{Line}
 use Rattle.todo_text.specs.declared.line.Line.TheVariants.{Pick, Exec, Break, Noop, Label, Reset, Merge, UpdateRef}
 use Rattle.todo_text.specs.declared.line.PickKind.{PickKind}
 use Rattle.todo_text.specs.declared.line.PickKind.TheVariants as kind
-use Rattle.todo_text.specs.declared.line.MergeHow.TheVariants.{Keep}
-use Rattle.todo_text.specs.Words.{unmarked, is_hash}
-use Rattle.todo_text.specs.Names.{is_label}
+use Rattle.todo_text.specs.Words.{unmarked}
 use Rattle.todo_text.specs.Spells.{IsWord, begins_blank, ends_blank, BeginsAll, Leads, Trims, IsNote, IsMergeNote, command_word, arguments, Ends, HasNoFeed, is_fit, Spells, IsSpelled, pick_word, spaced, note_text, ending, text_of, ends_in_return, line_end, canonical}
 use Rattle.todo_text.specs.Todos.{is_comment, counts, may_stand, SpellAll, todo_text}
 use Rattle.todo_text.proofs.LineLemmas.{is_feed, first_of_parts}

@@ -1,5 +1,5 @@
 -- Paths below a path, among paths in order.
-use Rattle.std.proofs.Common.{◌≡◌, ℕ, zero, suc, ◌+◌, ◌<◌, ◌≤◌, ◌≢◌, Bool, true, false, cond, ltb, eqb, ◌||◌, ◌&&◌, ◌==◌, slice_index, List, [], ◌∷◌, length, take, drop, get_or, Ordering, refl, sym, ap, subst, ◌∙◌, arith}
+use Rattle.std.proofs.Common.{◌≡◌, ℕ, zero, suc, ◌+◌, ◌<◌, ◌≤◌, ◌≢◌, Bool, true, false, cond, ltb, eqb, ◌||◌, ◌&&◌, ◌==◌, slice_index, List, [], ◌∷◌, length, take, get_or, Ordering, refl, sym, ap, subst, ◌∙◌, arith}
 use Rattle.std.specs.List.{list_any, starts_with}
 use Rattle.std.specs.Ordering.{nat_cmp, is_lt, ordering_then}
 use Rattle.std.specs.declared.cmp.Ordering.TheVariants.{Less, Equal, Greater}

@@ -24,14 +24,14 @@ pub fn subject_of(case: &mut Case<'_>) -> Result<(), CaseFault> {
 }
 
 /// The kind of an item behind the first.
-fn later_kind(word: &[u8]) -> Result<ChainKind, CaseFault>
+fn later_kind(word: &str) -> Result<ChainKind, CaseFault>
     ensures { IfOk result (λ kind. is_first kind ≡ false) }
 {
     match word {
-        b"squash" => Ok(ChainKind::Squash),
-        b"fixup" => Ok(ChainKind::Fixup),
-        b"keep" => Ok(ChainKind::Keep),
-        b"keep-edit" => Ok(ChainKind::KeepEdit),
+        "squash" => Ok(ChainKind::Squash),
+        "fixup" => Ok(ChainKind::Fixup),
+        "keep" => Ok(ChainKind::Keep),
+        "keep-edit" => Ok(ChainKind::KeepEdit),
         _ => Err(CaseFault::Form),
     }
 }
@@ -51,7 +51,7 @@ fn later_items(alloc: Global, fields: &mut Fields<'_>) -> Result<Vec<ChainItem>,
 {
     let mut items = Vec::new(alloc);
     for _ in 0..fields.len() / 2 {
-        let kind = later_kind(fields.bytes()?)?;
+        let kind = later_kind(fields.word()?)?;
         let message = fields.owned()?;
         items.push(ChainItem { kind, message })?;
     }

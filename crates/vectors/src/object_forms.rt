@@ -1,10 +1,10 @@
 //! Cases of `object_text`.
 
 use crate::failure::{Failure, value};
-use cases::{Answer, Case, CaseFault};
+use cases::{Answer, Case, CaseFault, kind_of, kind_word, put_commit};
 use object_text::{
-    Commit, Kind, TextFault, commit_text, object_header, object_text, parse_commit, parse_object,
-    parse_tree, tree_text,
+    TextFault, commit_text, object_header, object_text, parse_commit, parse_object, parse_tree,
+    tree_text,
 };
 use seq_base::Id;
 use sha1::Sha1;
@@ -20,28 +20,9 @@ impl Failure for TextFault {
     }
 }
 
-fn kind_of(word: &[u8]) -> Result<Kind, CaseFault> {
-    match word {
-        b"blob" => Ok(Kind::Blob),
-        b"tree" => Ok(Kind::Tree),
-        b"commit" => Ok(Kind::Commit),
-        b"tag" => Ok(Kind::Tag),
-        _ => Err(CaseFault::Form),
-    }
-}
-
-fn kind_word(kind: Kind) -> &'static [u8] {
-    match kind {
-        Kind::Blob => b"blob",
-        Kind::Tree => b"tree",
-        Kind::Commit => b"commit",
-        Kind::Tag => b"tag",
-    }
-}
-
 /// KIND CONTENT: the object's text, and its id.
 pub fn text(case: &mut Case<'_>) -> Result<(), CaseFault> {
-    let kind = kind_of(case.fields.bytes()?)?;
+    let kind = kind_of(case.fields.word()?)?;
     let text = object_text(case.alloc, kind, case.fields.bytes()?)?;
     case.out.bytes(&text)?;
     case.out.id(Id::from_bytes(Sha1::digest(&text)))?;
@@ -50,7 +31,7 @@ pub fn text(case: &mut Case<'_>) -> Result<(), CaseFault> {
 
 /// KIND LENGTH
 pub fn header(case: &mut Case<'_>) -> Result<(), CaseFault> {
-    let kind = kind_of(case.fields.bytes()?)?;
+    let kind = kind_of(case.fields.word()?)?;
     let length = case.fields.number()?;
     case.out
         .bytes(&object_header(case.alloc, kind, length as usize)?)?;
@@ -85,21 +66,6 @@ pub fn tree_again(case: &mut Case<'_>) -> Result<(), CaseFault> {
     let entries = value(parsed, &mut case.out)?;
     case.out.bytes(&tree_text(case.alloc, &entries)?)?;
     Ok(())
-}
-
-fn put_commit(out: &mut Answer, commit: &Commit) -> Result<(), AllocError> {
-    out.word(b"tree")?;
-    out.id(commit.tree)?;
-    for parent in commit.parents.as_slice() {
-        out.word(b"parent")?;
-        out.id(*parent)?;
-    }
-    out.named(b"author", commit.author.as_slice())?;
-    out.named(b"committer", commit.committer.as_slice())?;
-    if let Some(encoding) = &commit.encoding {
-        out.named(b"encoding", encoding.as_slice())?;
-    }
-    out.named(b"message", commit.message.as_slice())
 }
 
 /// CONTENT: the fields.

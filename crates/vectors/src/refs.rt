@@ -1,16 +1,12 @@
 //! Cases of `ref_text`.
 
-ghost use Rattle.std.specs.Prelude.{◌≡◌, ◌==◌, not};
-ghost use Rattle.std.specs.List.{list_all};
-
 use crate::failure::{Failure, value};
-use cases::{Answer, Case, CaseFault};
-use ident_text::parse_ident;
+use cases::{Answer, Case, CaseFault, log_line_behind, put_log_line};
 use ref_text::{
-    Head, HeadFault, LineFault, LogLine, head_text, log_text, packed_text, parse_head, parse_log,
+    Head, HeadFault, LineFault, head_text, log_text, packed_text, parse_head, parse_log,
     parse_packed,
 };
-use seq_base::{Bytes, is_ref_name};
+use seq_base::is_ref_name;
 use std::alloc::AllocError;
 
 impl Failure for HeadFault {
@@ -83,16 +79,6 @@ pub fn packed_again(case: &mut Case<'_>) -> Result<(), CaseFault> {
     Ok(())
 }
 
-fn put_log_line(out: &mut Answer, line: &LogLine) -> Result<(), AllocError> {
-    match line.old {
-        Some(old) => out.id(old)?,
-        None => out.word(b"none")?,
-    }
-    out.id(line.new)?;
-    out.bytes(line.ident.as_slice())?;
-    out.bytes(line.message.as_slice())
-}
-
 /// TEXT: old value, new value, ident and message of each line.
 pub fn log(case: &mut Case<'_>) -> Result<(), CaseFault> {
     let parsed = parse_log(case.alloc, case.fields.bytes()?);
@@ -104,29 +90,9 @@ pub fn log(case: &mut Case<'_>) -> Result<(), CaseFault> {
     Ok(())
 }
 
-fn has_no_line_feed(message: &[u8]) -> bool
-    ensures { result ≡ list_all (λ b. not (b == 10)) message.now }
-{
-    message.iter().all(|b| *b != b'\n')
-}
-
 /// NEW IDENT MESSAGE: the first line of a log.
 pub fn first_log_line(case: &mut Case<'_>) -> Result<(), CaseFault> {
-    let new = case.fields.id()?;
-    let ident = case.fields.bytes()?;
-    let message = case.fields.bytes()?;
-    if !has_no_line_feed(message) {
-        return Err(CaseFault::Value);
-    }
-    let Ok(_who) = parse_ident(case.alloc, ident) else {
-        return Err(CaseFault::Value)
-    };
-    let line = LogLine {
-        old: None,
-        new,
-        ident: Bytes::from_vec(Vec::from_slice(case.alloc, ident)?),
-        message: Bytes::from_vec(Vec::from_slice(case.alloc, message)?),
-    };
+    let line = log_line_behind(case, None)?;
     case.out.bytes(&log_text(case.alloc, &line)?)?;
     Ok(())
 }

@@ -7,7 +7,7 @@ use cases::{Case, CaseFault, Verbs};
 pub struct FormatVerbs;
 
 impl Verbs for FormatVerbs {
-    fn answer(&self, verb: &[u8], case: &mut Case<'_>) -> Result<bool, CaseFault> {
+    fn answer(&self, verb: &str, case: &mut Case<'_>) -> Result<bool, CaseFault> {
         Ok(
             of_values(verb, case)?
                 || of_objects(verb, case)?
@@ -18,75 +18,75 @@ impl Verbs for FormatVerbs {
 }
 
 /// The crates grammar and seq_base.
-fn of_values(verb: &[u8], case: &mut Case<'_>) -> Result<bool, CaseFault> {
+fn of_values(verb: &str, case: &mut Case<'_>) -> Result<bool, CaseFault> {
     match verb {
-        b"minor" => formats::minor(case)?,
-        b"decimal" => formats::decimal(case)?,
-        b"line-of-place" => formats::line(case)?,
-        b"bytes-order" => names::bytes_order(case)?,
-        b"id" => names::id(case)?,
-        b"id-order" => names::id_order(case)?,
-        b"mode" => names::mode(case)?,
-        b"path" => names::path(case)?,
-        b"path-order" => names::path_order(case)?,
-        b"ref-name" => names::ref_name(case)?,
-        b"store-path" => names::store_path(case)?,
-        b"path-map" => maps::path_map(case)?,
-        b"path-map-get" => maps::path_map_get(case)?,
+        "minor" => formats::minor(case)?,
+        "decimal" => formats::decimal(case)?,
+        "line-of-place" => formats::line(case)?,
+        "bytes-order" => names::bytes_order(case)?,
+        "id" => names::id(case)?,
+        "id-order" => names::id_order(case)?,
+        "mode" => names::mode(case)?,
+        "path" => names::path(case)?,
+        "path-order" => names::path_order(case)?,
+        "ref-name" => names::ref_name(case)?,
+        "store-path" => names::store_path(case)?,
+        "path-map" => maps::path_map(case)?,
+        "path-map-get" => maps::path_map_get(case)?,
         _ => return Ok(false),
     }
     Ok(true)
 }
 
 /// The crates object_text and ident_text.
-fn of_objects(verb: &[u8], case: &mut Case<'_>) -> Result<bool, CaseFault> {
+fn of_objects(verb: &str, case: &mut Case<'_>) -> Result<bool, CaseFault> {
     match verb {
-        b"object-text" => object_forms::text(case)?,
-        b"object-header" => object_forms::header(case)?,
-        b"object" => object_forms::object(case)?,
-        b"tree" => object_forms::tree(case)?,
-        b"tree-again" => object_forms::tree_again(case)?,
-        b"commit" => object_forms::commit(case)?,
-        b"commit-again" => object_forms::commit_again(case)?,
-        b"ident" => idents::ident(case)?,
-        b"author-script-of" => idents::script_of(case)?,
-        b"author-script" => idents::script(case)?,
+        "object-text" => object_forms::text(case)?,
+        "object-header" => object_forms::header(case)?,
+        "object" => object_forms::object(case)?,
+        "tree" => object_forms::tree(case)?,
+        "tree-again" => object_forms::tree_again(case)?,
+        "commit" => object_forms::commit(case)?,
+        "commit-again" => object_forms::commit_again(case)?,
+        "ident" => idents::ident(case)?,
+        "author-script-of" => idents::script_of(case)?,
+        "author-script" => idents::script(case)?,
         _ => return Ok(false),
     }
     Ok(true)
 }
 
 /// The crates ref_text, index_file and config_text.
-fn of_repositories(verb: &[u8], case: &mut Case<'_>) -> Result<bool, CaseFault> {
+fn of_repositories(verb: &str, case: &mut Case<'_>) -> Result<bool, CaseFault> {
     match verb {
-        b"head" => refs::head(case)?,
-        b"head-on" => refs::head_on(case)?,
-        b"head-at" => refs::head_at(case)?,
-        b"packed" => refs::packed(case)?,
-        b"packed-again" => refs::packed_again(case)?,
-        b"log" => refs::log(case)?,
-        b"log-first-line" => refs::first_log_line(case)?,
-        b"index" => index::index(case)?,
-        b"index-again" => index::index_again(case)?,
-        b"config" => configs::settings(case)?,
-        b"config-value" => configs::last_value(case)?,
+        "head" => refs::head(case)?,
+        "head-on" => refs::head_on(case)?,
+        "head-at" => refs::head_at(case)?,
+        "packed" => refs::packed(case)?,
+        "packed-again" => refs::packed_again(case)?,
+        "log" => refs::log(case)?,
+        "log-first-line" => refs::first_log_line(case)?,
+        "index" => index::index(case)?,
+        "index-again" => index::index_again(case)?,
+        "config" => configs::settings(case)?,
+        "config-value" => configs::last_value(case)?,
         _ => return Ok(false),
     }
     Ok(true)
 }
 
 /// The crates todo_text and message_text.
-fn of_sequences(verb: &[u8], case: &mut Case<'_>) -> Result<bool, CaseFault> {
+fn of_sequences(verb: &str, case: &mut Case<'_>) -> Result<bool, CaseFault> {
     match verb {
-        b"todo" => todo::lines(case)?,
-        b"todo-again" => todo::again(case)?,
-        b"todo-many" => todo::many(case)?,
-        b"clean" => messages::cleaned(case)?,
-        b"subject" => messages::subject_of(case)?,
-        b"chain" => messages::chain(case)?,
-        b"kept" => messages::kept(case)?,
-        b"picked" => messages::picked(case)?,
-        b"reverted" => messages::reverted(case)?,
+        "todo" => todo::lines(case)?,
+        "todo-again" => todo::again(case)?,
+        "todo-many" => todo::many(case)?,
+        "clean" => messages::cleaned(case)?,
+        "subject" => messages::subject_of(case)?,
+        "chain" => messages::chain(case)?,
+        "kept" => messages::kept(case)?,
+        "picked" => messages::picked(case)?,
+        "reverted" => messages::reverted(case)?,
         _ => return Ok(false),
     }
     Ok(true)

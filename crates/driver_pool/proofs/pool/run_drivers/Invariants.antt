@@ -1,4 +1,4 @@
-use Rattle.std.proofs.Common.{◌≡◌, ℕ, ◌+◌, ◌≤◌, length}
+use Rattle.std.proofs.Common.{◌≡◌, ◌+◌, ◌≤◌, length}
 use Rattle.seq_outside.specs.Seen.{Goes}
 use Rattle.driver_pool.proofs.Running.{IsSoFar}
 use Rattle.driver_pool.proofs.pool.run_drivers.Given as goal

@@ -1,6 +1,6 @@
-use Rattle.std.proofs.Common.{List, [], ◌∷◌, ◌++◌, ℕ, sym, ap, subst, ◌∙◌}
+use Rattle.std.proofs.Common.{List, [], ◌∷◌, ◌++◌, ℕ, ap, subst, ◌∙◌}
 use Rattle.seq_base.specs.Paths.{IsPath, IsPathFaultOrMemory}
-use Rattle.object_text.specs.TreeMaps.{below, is_path_text}
+use Rattle.object_text.specs.TreeMaps.{below}
 use Rattle.object_text.specs.declared.tree.TreeEntry.{TreeEntry}
 use Rattle.path_trees.proofs.Paths.{HasTaken, one_taken, path_passes, rows_fail}
 use Rattle.path_trees.proofs.rows.rows_of.Goals as goal

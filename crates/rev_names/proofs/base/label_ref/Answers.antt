@@ -1,4 +1,3 @@
-use Rattle.std.proofs.Common.{rules, ◌≡◌, [], ◌∷◌}
 use Rattle.rev_names.specs.Bases.{label_ref as label_ref_of}
 use Rattle.rev_names.proofs.base.label_ref.Goals as goal
 

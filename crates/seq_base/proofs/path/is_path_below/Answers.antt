@@ -1,4 +1,4 @@
-use Rattle.std.proofs.Common.{◌≡◌, sym, ◌∙◌, arith}
+use Rattle.std.proofs.Common.{sym, ◌∙◌, arith}
 use Rattle.seq_base.proofs.PathsBelow.{path_below}
 use Rattle.seq_base.proofs.path.is_path_below.Goals as goal
 
