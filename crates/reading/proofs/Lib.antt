@@ -1,0 +1,10 @@
+pub mod Turns
+pub mod Composing
+pub mod Lefts
+pub mod Meant
+pub mod Kept
+pub mod Files
+pub mod Leaving
+pub mod Lists
+pub mod Apart
+pub mod Computed

@@ -1,0 +1,10 @@
+use Rattle.std.proofs.Common.{◌≡◌, ◌++◌, length}
+use Rattle.std.specs.List.{filter_map}
+use Rattle.state_reading.specs.Lines.{label_at}
+use Rattle.state_reading.proofs.lines.labels_in.Given as goal
+
+abbrev pub invariant-loop-rest : goal.invariant-loop-rest
+invariant-loop-rest l = l.labels.items ++ filter_map label_at l.rest ≡ filter_map label_at l.fn.lines
+
+abbrev pub decreases-loop-rest : goal.decreases-loop-rest
+decreases-loop-rest l = length l.rest

@@ -1,0 +1,4 @@
+pub mod Recalls
+pub mod Lines
+pub mod Values
+pub mod Settings
