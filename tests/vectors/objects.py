@@ -270,8 +270,61 @@ def add_bad_commits(cases):
         cases.add("commit", [COMMIT.replace(old, new, 1)], ["bad", at])
 
 
+def bad_tag(text):
+    """The first byte with which no tag's text goes on."""
+    at = 0
+    for part in (b"object ", None, b"\ntype "):
+        if part is None:
+            ends = at + 40
+            while at < min(ends, len(text)) and chr(text[at]) in "0123456789abcdefABCDEF":
+                at += 1
+            if at < ends:
+                return at
+            continue
+        length, found = front(text[at:], [part])
+        at += length
+        if found is None:
+            return at
+    length, kind = front(text[at:], [kind.encode() + b"\n" for kind in KINDS])
+    at += length
+    if kind is None:
+        return at
+    length, found = front(text[at:], [b"tag "])
+    return at + length if found is None else len(text)
+
+
+def add_tags(cases):
+    cases.group(
+        "Tags that `git tag` and `git mktag` made, by the object that `git rev-parse TAG^{}` names or, of a tag of a tag, the tag's own first",
+        "line; and texts whose first three lines are none of a tag's, with the first byte with which none goes on, by that rule.",
+    )
+    repository = Repository()
+    commit = repository.commit(repository.put("tree", b""))
+    for name, message, thing in (("v1", "note", commit), ("a/b", "two\n\nlines", repository.put("blob", b"1\n")), ("é", "", EMPTY_TREE)):
+        repository.git("tag", "-a", "-m", message, name, thing)
+        content = repository.git("cat-file", "tag", name)
+        named = repository.line("rev-parse", name + "^{}")
+        cases.add("tag", [content], [named])
+        cases.add("tag", [content.replace(named.encode(), named.upper().encode())], [named])
+        for length in range(content.index(b"\ntagger") + 1):
+            cases.add("tag", [content[:length]], ["bad", bad_tag(content[:length])])
+    first = repository.line("rev-parse", "v1")
+    text = f"object {first}\ntype tag\ntag v2\ntagger A <a@x> 1 +0000\n\nm\n".encode()
+    made = repository.line("mktag", stdin=text)
+    cases.add("tag", [repository.git("cat-file", "tag", made)], [first])
+    cases.add("tag", [text[: text.index(b"tagger")]], [first])
+    cases.add("tag", [text.replace(b"tag v2", b"tag ")], [first])
+    for old, new in [(b"type tag", b"type tags"), (b"type tag", b"type Tag"), (b"type tag", b"type "), (b"tag v2", b"tagv2"), (b"object", b"Object")]:
+        changed = text.replace(old, new, 1)
+        cases.add("tag", [changed], ["bad", bad_tag(changed)])
+    for old, new in [(first.encode(), first[:39].encode()), (first.encode(), first.encode() + b"0"), (b"\ntype", b"\n\ntype")]:
+        changed = text.replace(old, new, 1)
+        cases.add("tag", [changed], ["bad", bad_tag(changed)])
+
+
 def add(cases):
     add_objects(cases)
+    add_tags(cases)
     add_trees(cases)
     add_git_commits(cases)
     add_other_commits(cases)

@@ -52,6 +52,23 @@ def add_heads(cases, repository):
         cases.add("head", [text], ["bad"])
 
 
+def add_loose(cases, repository):
+    cases.group(
+        "Loose refs: the file as git left it, and with blanks behind its line and no LF, which `git rev-parse` reads too, and so do these; by the",
+        "written rule no other text is one.",
+    )
+    commit = repository.line("rev-parse", "master")
+    for line, answer in ((commit.encode(), ["detached", commit]), (b"ref: refs/heads/master", ["branch", b"refs/heads/master"])):
+        for end in (b"\n", b"", b" \n", b"\t \n", b" ", b"\t"):
+            repository.write(".git/refs/heads/loose", line + end)
+            assert repository.line("rev-parse", "--verify", "refs/heads/loose") == commit
+            cases.add("loose", [line + end], answer)
+        for text in (line[:-1] + b"\n" if line[:3] != b"ref" else b"ref: x\n", b" " + line, line + b"\n\n", line + b"\nx", line + b" x\n"):
+            cases.add("loose", [text], ["bad"])
+    for text in (b"", b"\n", b"ref: \n", b"ref: refs/heads/a..b\n", b"ref: refs/heads/a.lock", b"g" * 40):
+        cases.add("loose", [text], ["bad"])
+
+
 def is_digits(text):
     return len(text) == 40 and all(digit in b"0123456789abcdefABCDEF" for digit in text)
 
@@ -185,3 +202,4 @@ def add(cases):
     add_logs(cases, repository)
     add_packed(cases, repository)
     add_heads(cases, repository)
+    add_loose(cases, settled())

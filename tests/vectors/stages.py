@@ -73,3 +73,51 @@ def add(cases):
         repository.git("update-index", "-z", "--index-info", stdin=b"0 " + b"0" * 40 + b"\t" + path + b"\0" + info(new))
         fields = [field for stage in range(4) for field in there.get(stage, ["none"])]
         cases.add("set-stages", [octets.hex(), path, *fields], answer_of(rows_of(repository)))
+    add_differences(cases, pick)
+
+
+def mapped_rows(repository, tree):
+    """The rows of the map of a tree."""
+    fields = []
+    for row in repository.git("ls-tree", "-r", "-z", tree).split(b"\0")[:-1]:
+        about, path = row.split(b"\t", 1)
+        mode, _, name = about.decode().split()
+        fields += [path, mode, name]
+    return fields
+
+
+def add_differences(cases, pick):
+    cases.group(
+        "The index that `git read-tree` makes of a tree; whether an index tracks a path, as `git ls-files` lists it; and the least path at which",
+        "the index differs from HEAD's map: the first that `git diff-index --cached` names, or `none`.",
+    )
+    for _ in range(25):
+        rows = chosen(pick, pick.sample(NAMES, pick.randint(0, 5)), STAGES[:1])
+        repository, _ = index_of(rows)
+        tree = repository.line("write-tree", "--missing-ok")
+        head = mapped_rows(repository, tree)
+        repository.git("read-tree", tree)
+        cases.add("index-of-map", head, answer_of(rows_of(repository)))
+        other = [pick.choice([row, (*row[:2], pick.choice(MODES), pick.choice([HELLO, OTHER]))]) for row in rows if pick.random() < 0.8]
+        other += chosen(pick, [name for name in NAMES if name not in [row[0] for row in rows] and pick.random() < 0.2], STAGES[:1])
+        repository.git("read-tree", "--empty")
+        repository.git("update-index", "-z", "--index-info", stdin=info(other or [(b"x", 0, "100644", HELLO)]))
+        if not other:
+            repository.git("update-index", "--force-remove", "x")
+        octets = repository.read(".git/index")
+        differ = repository.git("diff-index", "--cached", "--name-only", "--no-renames", "-z", tree).split(b"\0")[:-1]
+        cases.add("staged-path", [octets.hex(), *head], [min(differ)] if differ else ["none"])
+        listed = repository.git("ls-files", "-z").split(b"\0")
+        for path in (*pick.sample(NAMES, 3), b"b", b"", b"c/d"):
+            cases.add("tracked", [octets.hex(), path], [path != b"" and path in listed])
+    cases.group("The same of paths at other stages: they are tracked, and differ from HEAD's map as if they were not there. By this rule.")
+    for _ in range(15):
+        rows = chosen(pick, pick.sample(NAMES, pick.randint(1, 5)), STAGES)
+        _, octets = index_of(rows)
+        merged = {path: [mode, name] for path, stage, mode, name in rows if stage == 0}
+        head = {path: [mode, name] for path, _, mode, name in rows if pick.random() < 0.8}
+        differ = [path for path in merged.keys() | head.keys() if merged.get(path) != head.get(path)]
+        fields = [field for path in sorted(head) for field in (path, *head[path])]
+        cases.add("staged-path", [octets.hex(), *fields], [min(differ)] if differ else ["none"])
+        for path in pick.sample(NAMES, 3):
+            cases.add("tracked", [octets.hex(), path], [any(path == row[0] for row in rows)])

@@ -44,7 +44,8 @@ everything_from b [] = refl
 everything_from b (c ∷ text) = everything_from c text
 
 -- one byte, and no other
-single : (p : Piece) (text : List ℕ) → may_be_empty p ≡ false → ((b : ℕ) → may_go_on p b ≡ false) → is_taken p text ≡ true → (b : ℕ) × (may_end p b ≡ true) × (text ≡ b ∷ [])
+single : (p : Piece) (text : List ℕ) → may_be_empty p ≡ false → ((b : ℕ) → may_go_on p b ≡ false) → is_taken p text ≡ true
+    → (b : ℕ) × (may_end p b ≡ true) × (text ≡ b ∷ [])
 single p [] e g h = absurd (cc)
 single p (b ∷ []) e g h = (b, h, refl)
 single p (b ∷ c ∷ text) e g h = let never = g b in let k = (and_parts (may_go_on p b) (is_taken_from p c text) h).0 in absurd (cc)
@@ -72,7 +73,8 @@ taken Everything (b ∷ text) h = everything_from b text
 
 -- ---- one after the other
 
-goes_on_splits : (p : Piece) (q : List ℕ → Bool) (text : List ℕ) → goes_on p q text ≡ true → (b : ℕ) × (front : List ℕ) × (rest : List ℕ) × (is_taken_from p b front ≡ true) × (q rest ≡ true) × (text ≡ b ∷ front ++ rest)
+goes_on_splits : (p : Piece) (q : List ℕ → Bool) (text : List ℕ) → goes_on p q text ≡ true
+    → (b : ℕ) × (front : List ℕ) × (rest : List ℕ) × (is_taken_from p b front ≡ true) × (q rest ≡ true) × (text ≡ b ∷ front ++ rest)
 goes_on_splits p q [] h = absurd (cc)
 goes_on_splits p q (b ∷ text) h = elim (or_cases (may_end p b && q text) (may_go_on p b && goes_on p q text) h) [
   | inl l ↦ let k = and_parts _ _ l in (b, [], text, k.0, k.1, refl)
@@ -81,7 +83,8 @@ goes_on_splits p q (b ∷ text) h = elim (or_cases (may_end p b && q text) (may_
       (b, w.0 ∷ w.1, w.2, and_from _ _ k.0 w.3, w.4, ap (λ (t : List ℕ). b ∷ t) w.5)
 ]
 
-goes_on_from : (p : Piece) (q : List ℕ → Bool) (b : ℕ) (front rest : List ℕ) → is_taken_from p b front ≡ true → q rest ≡ true → goes_on p q (b ∷ front ++ rest) ≡ true
+goes_on_from : (p : Piece) (q : List ℕ → Bool) (b : ℕ) (front rest : List ℕ) → is_taken_from p b front ≡ true → q rest ≡ true
+    → goes_on p q (b ∷ front ++ rest) ≡ true
 goes_on_from p q b [] rest h k = or_left _ _ (and_from _ _ h k)
 goes_on_from p q b (c ∷ front) rest h k =
     let parts = and_parts (may_go_on p b) (is_taken_from p c front) h in
@@ -151,20 +154,24 @@ no_cut begins rest [] some none e = absurd (omega (arith, ap length e))
 no_cut begins rest (p ∷ ps) some none c = let e = c.1 in absurd (cc)
 
 -- what stands in front of the letters is no piece
-pub fits_no_more : (begins : Bool) (rest : List Letter) (marks : List Bool) (text : List ℕ) (letters : List Letter) → StillFits begins rest marks text letters
+pub fits_no_more : (begins : Bool) (rest : List Letter) (marks : List Bool) (text : List ℕ) (letters : List Letter)
+    → StillFits begins rest marks text letters
     → 0 < length rest → piece_at begins rest ≡ None → Fits letters text → ⊥
 fits_no_more begins rest marks text letters still some none f = let m = still.back f in no_cut begins rest m.0 some none m.1
 
-same_cut : (found other : Piece × List Letter) (begins : Bool) (rest : List Letter) → piece_at begins rest ≡ Some found → piece_at begins rest ≡ Some other → found ≡ other
+same_cut : (found other : Piece × List Letter) (begins : Bool) (rest : List Letter) → piece_at begins rest ≡ Some found
+    → piece_at begins rest ≡ Some other → found ≡ other
 same_cut found other begins rest e f = let g : Some found ≡ Some other = sym e ∙ f in cc
 
-as_many_later : (p : Piece) (begun : Bool) (marks : List Bool) (text : List ℕ) → length marks ≡ length text → length (later_marks p begun marks text) ≡ length text
+as_many_later : (p : Piece) (begun : Bool) (marks : List Bool) (text : List ℕ) → length marks ≡ length text
+    → length (later_marks p begun marks text) ≡ length text
 unfolding later_marks
 as_many_later p begun [] text e = e
 as_many_later p begun (m ∷ marks) [] e = refl
 as_many_later p begun (m ∷ marks) (b ∷ text) e = ap suc (as_many_later p (m || (begun && may_go_on p b)) marks text (omega (arith, e)))
 
-as_many_behind : (p : Piece) (marks : List Bool) (text : List ℕ) → length marks ≡ suc (length text) → length (marks_behind p marks text) ≡ suc (length text)
+as_many_behind : (p : Piece) (marks : List Bool) (text : List ℕ) → length marks ≡ suc (length text)
+    → length (marks_behind p marks text) ≡ suc (length text)
 as_many_behind p [] text e = e
 as_many_behind p (m ∷ marks) text e = ap suc (as_many_later p m marks text (omega (arith, e)))
 
@@ -189,14 +196,16 @@ still_fits_behind p behind begins rest marks text letters e still = record {
 }
 
 -- no piece takes nothing but the empty text
-holds_later_at_end : (marks : List Bool) (b : ℕ) (text : List ℕ) → length marks ≡ length (b ∷ text) → holds_later marks (b ∷ text) (are_taken []) ≡ get_or marks (length text) false
+holds_later_at_end : (marks : List Bool) (b : ℕ) (text : List ℕ) → length marks ≡ length (b ∷ text)
+    → holds_later marks (b ∷ text) (are_taken []) ≡ get_or marks (length text) false
 holds_later_at_end [] b text e = absurd (cc)
 holds_later_at_end (m ∷ []) b [] e = or_false (m && true) ∙ and_true m
 holds_later_at_end (m ∷ n ∷ marks) b [] e = absurd (omega (arith, e))
 holds_later_at_end (m ∷ marks) b (c ∷ text) e =
     ap (λ (r : Bool). r || holds_later marks (c ∷ text) (are_taken [])) (and_false m) ∙ holds_later_at_end marks c text (omega (arith, e))
 
-holds_at_end : (marks : List Bool) (text : List ℕ) → length marks ≡ suc (length text) → holds marks text (are_taken []) ≡ get_or marks (length text) false
+holds_at_end : (marks : List Bool) (text : List ℕ) → length marks ≡ suc (length text)
+    → holds marks text (are_taken []) ≡ get_or marks (length text) false
 holds_at_end [] text e = absurd (cc)
 holds_at_end (m ∷ []) [] e = or_false (m && true) ∙ and_true m
 holds_at_end (m ∷ n ∷ marks) [] e = absurd (omega (arith, e))
@@ -207,7 +216,8 @@ cut_nothing : (begins : Bool) (ps : List Piece) → Cut begins [] ps → ps ≡ 
 cut_nothing begins [] c = refl
 cut_nothing begins (p ∷ ps) c = let e = c.1 in absurd (cc)
 
-pub fits_at_end : (begins : Bool) (rest : List Letter) (marks : List Bool) (text : List ℕ) (letters : List Letter) → StillFits begins rest marks text letters
+pub fits_at_end : (begins : Bool) (rest : List Letter) (marks : List Bool) (text : List ℕ) (letters : List Letter)
+    → StillFits begins rest marks text letters
     → length rest ≡ 0 → (get_or marks (length text) false ≡ true) ↔ Fits letters text
 fits_at_end begins [] marks text letters still none =
     let e = holds_at_end marks text still.places in (

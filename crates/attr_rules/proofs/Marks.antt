@@ -23,7 +23,8 @@ abbrev pub holds : List Bool → List ℕ → (List ℕ → Bool) → Bool
 holds [] path q = false
 holds (mark ∷ marks) path q = (mark && q path) || holds_later marks path q
 
-step : (e m n w q o r : Bool) (begun : Bool) → ((((e && m) || (begun && n)) && q) || (((m || (begun && w)) && o) || r)) ≡ ((begun && ((n && q) || (w && o))) || ((m && ((e && q) || o)) || r))
+step : (e m n w q o r : Bool) (begun : Bool)
+    → ((((e && m) || (begun && n)) && q) || (((m || (begun && w)) && o) || r)) ≡ ((begun && ((n && q) || (w && o))) || ((m && ((e && q) || o)) || r))
 step e true n w q o r true = grind arith
 step e true n w q o r false = grind arith
 step e false n w q o r true = grind arith

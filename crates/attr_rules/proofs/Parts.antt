@@ -13,10 +13,12 @@ use Rattle.attr_rules.specs.Names.{has_name, have_names}
 use Rattle.attr_rules.specs.Rules.{is_feed, line_of, lines_of}
 use Rattle.seq_base.specs.Blanks.{is_blank}
 
-pub before_at : (p : ℕ → Bool) (xs : List ℕ) (n : ℕ) → n < length xs → ((k : ℕ) → k < n → p (get_or xs k 0) ≡ false) → p (get_or xs n 0) ≡ true → take n xs ≡ before_first p xs
+pub before_at : (p : ℕ → Bool) (xs : List ℕ) (n : ℕ) → n < length xs → ((k : ℕ) → k < n → p (get_or xs k 0) ≡ false) → p (get_or xs n 0) ≡ true
+    → take n xs ≡ before_first p xs
 before_at p xs n below before here = ap (λ (k : ℕ). take k xs) (sym (position_or_len_is p xs n 0 (omega arith) before (λ _. here)))
 
-pub after_at : (p : ℕ → Bool) (xs : List ℕ) (n : ℕ) → n < length xs → ((k : ℕ) → k < n → p (get_or xs k 0) ≡ false) → p (get_or xs n 0) ≡ true → drop (n + 1) xs ≡ after_first p xs
+pub after_at : (p : ℕ → Bool) (xs : List ℕ) (n : ℕ) → n < length xs → ((k : ℕ) → k < n → p (get_or xs k 0) ≡ false) → p (get_or xs n 0) ≡ true
+    → drop (n + 1) xs ≡ after_first p xs
 after_at p xs n below before here = ap (λ (k : ℕ). drop (k + 1) xs) (sym (position_or_len_is p xs n 0 (omega arith) before (λ _. here)))
 
 nowhere : (p : ℕ → Bool) (xs : List ℕ) → ((k : ℕ) → k < length xs → p (get_or xs k 0) ≡ false) → position_or_len p xs ≡ length xs
@@ -30,7 +32,8 @@ after_none p xs before = sym (drop_of_length-le xs (omega (arith, nowhere p xs b
 
 -- The parts are the first and those of what stands behind it, or the first alone, with nothing behind it.
 abbrev SplitFirst : (ℕ → Bool) → List ℕ → Type 0
-SplitFirst p xs = (slice_split p xs ≡ before_first p xs ∷ slice_split p (after_first p xs)) ⊎ ((slice_split p xs ≡ before_first p xs ∷ []) × (after_first p xs ≡ []))
+SplitFirst p xs =
+    (slice_split p xs ≡ before_first p xs ∷ slice_split p (after_first p xs)) ⊎ ((slice_split p xs ≡ before_first p xs ∷ []) × (after_first p xs ≡ []))
 
 split_first : (p : ℕ → Bool) (xs : List ℕ) → SplitFirst p xs
 split_first p xs = elim (eqb_tells (position_or_len p xs) (length xs)) [
@@ -52,7 +55,8 @@ found_first {Y} f p xs none = elim (split_first p xs) [
 ]
 
 -- All parts pass where the first and then the others do, if an empty one passes.
-all_first : (f : List ℕ → Bool) (p : ℕ → Bool) (xs : List ℕ) → f [] ≡ true → list_all f (slice_split p xs) ≡ (f (before_first p xs) && list_all f (slice_split p (after_first p xs)))
+all_first : (f : List ℕ → Bool) (p : ℕ → Bool) (xs : List ℕ) → f [] ≡ true
+    → list_all f (slice_split p xs) ≡ (f (before_first p xs) && list_all f (slice_split p (after_first p xs)))
 all_first f p xs on = elim (split_first p xs) [
   | inl more ↦ ap (list_all f) more
   | inr alone ↦
@@ -60,21 +64,27 @@ all_first f p xs on = elim (split_first p xs) [
       ap (list_all f) alone.0 ∙ ap (λ (t : Bool). f (before_first p xs) && t) (sym empty)
 ]
 
-names_first : (text word behind : List ℕ) → word ≡ before_first is_blank text → behind ≡ after_first is_blank text → have_names text ≡ (has_name word && have_names behind)
-names_first text word behind e f = all_first has_name is_blank text refl ∙ ap (λ (t : List ℕ). has_name t && have_names (after_first is_blank text)) (sym e) ∙ ap (λ (t : List ℕ). has_name word && have_names t) (sym f)
+names_first : (text word behind : List ℕ) → word ≡ before_first is_blank text → behind ≡ after_first is_blank text
+    → have_names text ≡ (has_name word && have_names behind)
+names_first text word behind e f =
+    all_first has_name is_blank text refl ∙ ap (λ (t : List ℕ). has_name t && have_names (after_first is_blank text)) (sym e)
+    ∙ ap (λ (t : List ℕ). has_name word && have_names t) (sym f)
 
 -- behind a word that has a name, the rest decides; one that has none decides for all
-pub name_kept : (text word behind : List ℕ) → word ≡ before_first is_blank text → behind ≡ after_first is_blank text → has_name word ≡ true → have_names behind ≡ have_names text
+pub name_kept : (text word behind : List ℕ) → word ≡ before_first is_blank text → behind ≡ after_first is_blank text → has_name word ≡ true
+    → have_names behind ≡ have_names text
 name_kept text word behind e f on = sym (names_first text word behind e f ∙ ap (λ (t : Bool). t && have_names behind) on)
 
-pub name_lost : (text word behind : List ℕ) → word ≡ before_first is_blank text → behind ≡ after_first is_blank text → has_name word ≡ false → have_names text ≡ false
+pub name_lost : (text word behind : List ℕ) → word ≡ before_first is_blank text → behind ≡ after_first is_blank text → has_name word ≡ false
+    → have_names text ≡ false
 name_lost text word behind e f off = names_first text word behind e f ∙ ap (λ (t : Bool). t && have_names behind) off
 
 pub no_words : (text : List ℕ) → length text ≡ 0 → have_names text ≡ true
 no_words [] none = refl
 no_words (b ∷ text) none = absurd (omega arith)
 
-lines_first : (text line behind : List ℕ) → line ≡ before_first is_feed text → behind ≡ after_first is_feed text → lines_of text ≡ cons_option (line_of line) (lines_of behind)
+lines_first : (text line behind : List ℕ) → line ≡ before_first is_feed text → behind ≡ after_first is_feed text
+    → lines_of text ≡ cons_option (line_of line) (lines_of behind)
 lines_first text line behind e f =
     found_first line_of is_feed text refl
     ∙ ap (λ (t : List ℕ). cons_option (line_of t) (lines_of (after_first is_feed text))) (sym e)

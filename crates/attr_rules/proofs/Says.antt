@@ -9,7 +9,8 @@ use Rattle.attr_rules.specs.MergeAttrs.{LineSays, LinesSay, FileSays, FilesSay}
 use Rattle.attr_rules.proofs.Words.{or_none, or_or}
 
 module _ (says : List ℕ → Option MergeAttr) (path : List ℕ) where
-  pub lines_more : (rest lines : List Line) (line : Line) (last here now : Option MergeAttr) → 0 < length rest → line ≡ get_or rest 0 line → LineSays says path line here
+  pub lines_more : (rest lines : List Line) (line : Line) (last here now : Option MergeAttr) → 0 < length rest → line ≡ get_or rest 0 line
+      → LineSays says path line here
       → now ≡ option_or here last → ((o : Option MergeAttr) → LinesSay says path rest o → LinesSay says path lines (option_or o last))
       → (later : Option MergeAttr) → LinesSay says path (take (length rest - 1) (drop 1 rest)) later → LinesSay says path lines (option_or later now)
   lines_more [] lines line last here now some is h e so_far later k = absurd (omega arith)
@@ -24,7 +25,8 @@ module _ (says : List ℕ → Option MergeAttr) (path : List ℕ) where
   lines_end [] lines last none so_far = so_far None refl
   lines_end (l ∷ ls) lines last none so_far = absurd (omega arith)
 
-  pub files_more : (rest files : List RuleFile) (file : RuleFile) (first here now : Option MergeAttr) → 0 < length rest → file ≡ get_or rest 0 file → FileSays says path file here
+  pub files_more : (rest files : List RuleFile) (file : RuleFile) (first here now : Option MergeAttr) → 0 < length rest → file ≡ get_or rest 0 file
+      → FileSays says path file here
       → now ≡ option_or first here → ((o : Option MergeAttr) → FilesSay says path rest o → FilesSay says path files (option_or first o))
       → (others : Option MergeAttr) → FilesSay says path (take (length rest - 1) (drop 1 rest)) others → FilesSay says path files (option_or now others)
   files_more [] files file first here now some is h e so_far others k = absurd (omega arith)

@@ -37,7 +37,8 @@ pub last_at_end : (ks : List Known) (text : List ℕ) (last : Option MergeAttr) 
 last_at_end ks [] last e = sym (ap (λ (o : Option MergeAttr). option_or o last) (last_of_none ks))
 last_at_end ks (b ∷ text) last e = absurd (omega arith)
 
-pub last_more : (ks : List Known) (text word behind : List ℕ) (last : Option MergeAttr) → word ≡ before_first is_blank text → behind ≡ after_first is_blank text
+pub last_more : (ks : List Known) (text word behind : List ℕ) (last : Option MergeAttr) → word ≡ before_first is_blank text
+    → behind ≡ after_first is_blank text
     → option_or (last_said (told ks) behind) (option_or (told ks word) last) ≡ option_or (last_said (told ks) text) last
 last_more ks text word behind last e f =
     let split : last_said (told ks) text ≡ option_or (last_said (told ks) behind) (told ks word) =
@@ -58,7 +59,8 @@ pub tells : (ms : List Macro) → told (known_of ms) ≡ said ms
 tells ms = fun_ext (told_is_said ms)
 
 -- one more macro, later than those that are known
-pub known_more : (ms : List Macro) (known : List Known) (m : Macro) (says : Option MergeAttr) → known ≡ known_of ms → says ≡ last_said (told known) m.attributes
+pub known_more : (ms : List Macro) (known : List Known) (m : Macro) (says : Option MergeAttr) → known ≡ known_of ms
+    → says ≡ last_said (told known) m.attributes
     → record { name = m.name; says = says } ∷ known ≡ known_of (m ∷ ms)
 unfolding said
 known_more ms known m says e f =

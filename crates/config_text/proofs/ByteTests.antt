@@ -77,7 +77,8 @@ itself quoted b e =
       not_feed = not_true (eqb b 10) three.0;
       not_quote = not_true (eqb b 34) three.1;
       not_backslash = not_true (eqb b 92) two.1;
-      not_mark = λ q. not_true (is_comment_mark b) (let k : (quoted || not (is_comment_mark b)) ≡ not (is_comment_mark b) = ap (λ (t : Bool). t || not (is_comment_mark b)) q in sym k ∙ one.1);
+      not_mark =
+          λ q. not_true (is_comment_mark b) (let k : (quoted || not (is_comment_mark b)) ≡ not (is_comment_mark b) = ap (λ (t : Bool). t || not (is_comment_mark b)) q in sym k ∙ one.1);
     }
 
 pub record IsEscape (b c : ℕ) : Type 0 where

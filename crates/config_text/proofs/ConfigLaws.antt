@@ -41,7 +41,8 @@ config_stops bytes left e =
   where
     off : (back front : List ℕ) (f : Front) → ran (Some (fed start)) front ≡ Some f → IsDead f back → NoneGoesOn IsConfig front back
     off [] front f went dead = tt
-    off (b ∷ back) front f went dead = λ x more g. dead_on f b more x dead (sym (goes (fed start) f front (b ∷ more) went) ∙ config_again x (front ++ b ∷ more) g)
+    off (b ∷ back) front f went dead =
+        λ x more g. dead_on f b more x dead (sym (goes (fed start) f front (b ∷ more) went) ∙ config_again x (front ++ b ∷ more) g)
 
 pub config_reads : ReadsAll IsConfig (read_from (fed start))
 config_reads = record { takes = config_takes; again = config_again; stops = config_stops }

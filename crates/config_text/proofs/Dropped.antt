@@ -60,7 +60,8 @@ abbrev pub Plain : List ℕ → Type 0
 Plain text = (s : State) → found (read_from (fed s) text) ≡ core (Some s) (without_returns text ++ 10 ∷ [])
 
 abbrev pub Returned : List ℕ → Type 0
-Returned text = (s : State) → may_return s.place ≡ true → found (read_from (behind_return s) text) ≡ core (Some s) (without_returns (13 ∷ text) ++ 10 ∷ [])
+Returned text =
+    (s : State) → may_return s.place ≡ true → found (read_from (behind_return s) text) ≡ core (Some s) (without_returns (13 ∷ text) ++ 10 ∷ [])
 
 -- behind a byte
 went : (o : Option State) (left : ℕ) (bs more : List ℕ) → ((s : State) → found (read_from (fed s) bs) ≡ core (Some s) more)
@@ -90,7 +91,8 @@ plain_more : (b : ℕ) (bs : List ℕ) → Plain bs → Returned bs → Plain (b
 unfolding read_from feed
 plain_more b bs plain returned s = at (eqb b 13) refl
   where
-    may : (u : Bool) → may_return s.place ≡ u → found (going (cond u (Some (behind_return s)) None) (suc (length bs)) (λ f. read_from f bs)) ≡ core (Some s) (without_returns (13 ∷ bs) ++ 10 ∷ [])
+    may : (u : Bool) → may_return s.place ≡ u
+        → found (going (cond u (Some (behind_return s)) None) (suc (length bs)) (λ f. read_from f bs)) ≡ core (Some s) (without_returns (13 ∷ bs) ++ 10 ∷ [])
     may true is = returned s is
     may false is = sym (barred s bs is)
 
@@ -107,7 +109,8 @@ returned_more : (b : ℕ) (bs : List ℕ) → Plain bs → Plain (b ∷ bs) → 
 unfolding read_from feed
 returned_more b bs plain more s may = at (eqb b 10) refl
   where
-    next : (o : Option State) (left : ℕ) → ((t : State) → found (going (then_feed (Some t) b) left (λ f. read_from f bs)) ≡ core (Some t) (without_returns (b ∷ bs) ++ 10 ∷ []))
+    next : (o : Option State) (left : ℕ)
+        → ((t : State) → found (going (then_feed (Some t) b) left (λ f. read_from f bs)) ≡ core (Some t) (without_returns (b ∷ bs) ++ 10 ∷ []))
         → found (going (then_feed o b) left (λ f. read_from f bs)) ≡ core o (without_returns (b ∷ bs) ++ 10 ∷ [])
     next None left plain = refl
     next (Some t) left plain = plain t

@@ -29,7 +29,8 @@ long (c ∷ v) bl b = some_length c (v ++ bl ++ b ∷ [])
 inner : (ms : List Mark) (v bl : List ℕ) → eqb (length v) 0 ≡ false
     → gathered v bl ms ≡ cond (list_all (λ n. n.is_loose) ms) v ((v ++ bl) ++ map (λ m. m.byte) (without_end ms))
 inner [] v bl some = refl
-inner (m ∷ ms) v bl some = at m.is_loose (list_all (λ n. n.is_loose) ms) refl (inner ms v (bl ++ m.byte ∷ []) some) (inner ms (v ++ bl ++ m.byte ∷ []) [] (long v bl m.byte))
+inner (m ∷ ms) v bl some =
+    at m.is_loose (list_all (λ n. n.is_loose) ms) refl (inner ms v (bl ++ m.byte ∷ []) some) (inner ms (v ++ bl ++ m.byte ∷ []) [] (long v bl m.byte))
   where
     at : (t u : Bool) → list_all (λ n. n.is_loose) ms ≡ u
         → gathered v (bl ++ m.byte ∷ []) ms ≡ cond u v ((v ++ (bl ++ m.byte ∷ [])) ++ map (λ m. m.byte) (without_end ms))

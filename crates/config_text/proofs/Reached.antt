@@ -40,15 +40,19 @@ module _ (S : List Setting) (section sub key : List ℕ) where
   unfolding step
   step_quoted b v bl e = let k = itself true b e in rw (k.not_feed, k.not_quote, k.not_backslash) refl
 
-  step_tight : (b : ℕ) (v bl : List ℕ) → is_itself false b ≡ true → is_blank b ≡ false → step (at Value v bl) b ≡ Some (at Value (v ++ bl ++ b ∷ []) [])
+  step_tight : (b : ℕ) (v bl : List ℕ) → is_itself false b ≡ true → is_blank b ≡ false
+      → step (at Value v bl) b ≡ Some (at Value (v ++ bl ++ b ∷ []) [])
   unfolding step
   step_tight b v bl e tight = let k = itself false b e in rw (k.not_feed, k.not_mark refl, k.not_quote, k.not_backslash, tight) refl
 
-  step_blank : (b : ℕ) (v bl : List ℕ) → is_blank b ≡ true → step (at Value v bl) b ≡ Some (cond (eqb (length v) 0) (at Value v bl) (at Value v (bl ++ b ∷ [])))
+  step_blank : (b : ℕ) (v bl : List ℕ) → is_blank b ≡ true
+      → step (at Value v bl) b ≡ Some (cond (eqb (length v) 0) (at Value v bl) (at Value v (bl ++ b ∷ [])))
   unfolding step
-  step_blank b v bl e = blank (λ (b : ℕ). step (at Value v bl) b ≡ Some (cond (eqb (length v) 0) (at Value v bl) (at Value v (bl ++ b ∷ [])))) refl refl b e
+  step_blank b v bl e =
+      blank (λ (b : ℕ). step (at Value v bl) b ≡ Some (cond (eqb (length v) 0) (at Value v bl) (at Value v (bl ++ b ∷ [])))) refl refl b e
 
-  step_escape : (q : Bool) (b c : ℕ) (v bl : List ℕ) → eqb b 10 ≡ false → escaped b ≡ Some c → step (at (in_escape q) v bl) b ≡ Some (at (in_value q) (v ++ bl ++ c ∷ []) [])
+  step_escape : (q : Bool) (b c : ℕ) (v bl : List ℕ) → eqb b 10 ≡ false → escaped b ≡ Some c
+      → step (at (in_escape q) v bl) b ≡ Some (at (in_value q) (v ++ bl ++ c ∷ []) [])
   unfolding step
   step_escape true b c v bl ne e = rw (ne, e) refl
   step_escape false b c v bl ne e = rw (ne, e) refl
@@ -69,7 +73,8 @@ module _ (S : List Setting) (section sub key : List ℕ) where
   step_quote false v bl = refl
 
   abbrev ValueRuns : Bool → List Part → List ℕ → List ℕ → List ℕ → Type 0
-  ValueRuns q parts v bl r = (left : List ℕ) × (core (Some (at (in_value q) v bl)) (flat_map part_text parts ++ r) ≡ core (Some (at Value (gathered v bl (marks q parts)) left)) r)
+  ValueRuns q parts v bl r =
+      (left : List ℕ) × (core (Some (at (in_value q) v bl)) (flat_map part_text parts ++ r) ≡ core (Some (at Value (gathered v bl (marks q parts)) left)) r)
 
   pub value_runs : (q : Bool) (parts : List Part) (v bl r : List ℕ) → is_value q parts ≡ true → ValueRuns q parts v bl r
   value_runs true [] v bl r e = absurd cc
@@ -85,9 +90,12 @@ module _ (S : List Setting) (section sub key : List ℕ) where
       byte : (t u : Bool) → is_blank b ≡ t → eqb (length v) 0 ≡ u → is_itself false b ≡ true
           → ValueRuns false parts v bl r → ValueRuns false parts v (bl ++ b ∷ []) r → ValueRuns false parts (v ++ bl ++ b ∷ []) [] r
           → (left : List ℕ) × (core (Some (at Value v bl)) (b ∷ (flat_map part_text parts ++ r)) ≡ core (Some (at Value (cond t (cond u (gathered v bl (marks false parts)) (gathered v (bl ++ b ∷ []) (marks false parts))) (gathered (v ++ bl ++ b ∷ []) [] (marks false parts))) left)) r)
-      byte false u t-is u-is it same more tight = (tight.0, on (at Value v bl) (at Value (v ++ bl ++ b ∷ []) []) b (flat_map part_text parts ++ r) (step_tight b v bl it t-is) ∙ tight.1)
-      byte true true t-is u-is it same more tight = (same.0, on (at Value v bl) (at Value v bl) b (flat_map part_text parts ++ r) (step_blank b v bl t-is ∙ rw u-is refl) ∙ same.1)
-      byte true false t-is u-is it same more tight = (more.0, on (at Value v bl) (at Value v (bl ++ b ∷ [])) b (flat_map part_text parts ++ r) (step_blank b v bl t-is ∙ rw u-is refl) ∙ more.1)
+      byte false u t-is u-is it same more tight =
+          (tight.0, on (at Value v bl) (at Value (v ++ bl ++ b ∷ []) []) b (flat_map part_text parts ++ r) (step_tight b v bl it t-is) ∙ tight.1)
+      byte true true t-is u-is it same more tight =
+          (same.0, on (at Value v bl) (at Value v bl) b (flat_map part_text parts ++ r) (step_blank b v bl t-is ∙ rw u-is refl) ∙ same.1)
+      byte true false t-is u-is it same more tight =
+          (more.0, on (at Value v bl) (at Value v (bl ++ b ∷ [])) b (flat_map part_text parts ++ r) (step_blank b v bl t-is ∙ rw u-is refl) ∙ more.1)
   value_runs q (Escape b ∷ parts) v bl r e =
       let k = and_true (is_some (escaped b)) (is_value q parts) e in
       let c = escape b k.0 in
@@ -112,7 +120,8 @@ module _ (S : List Setting) (section sub key : List ℕ) where
   -- ---- words
 
   -- bytes behind which it stands at the same place
-  pub stays : (s : State) (test : ℕ → Bool) → ((b : ℕ) → test b ≡ true → step s b ≡ Some s) → (w r : List ℕ) → list_all test w ≡ true → core (Some s) (w ++ r) ≡ core (Some s) r
+  pub stays : (s : State) (test : ℕ → Bool) → ((b : ℕ) → test b ≡ true → step s b ≡ Some s) → (w r : List ℕ) → list_all test w ≡ true
+      → core (Some s) (w ++ r) ≡ core (Some s) r
   stays s test one [] r e = refl
   stays s test one (b ∷ w) r e = let k = and_true (test b) (list_all test w) e in on s s b (w ++ r) (one b k.0) ∙ stays s test one w r k.1
 
@@ -152,7 +161,8 @@ module _ (S : List Setting) (section sub key : List ℕ) where
   feed_comment v bl = refl
 
   comment_runs : (c r v bl : List ℕ) → list_all is_in_line c ≡ true → core (Some (at Comment v bl)) (c ++ 10 ∷ r) ≡ core (Some (at Start v bl)) r
-  comment_runs c r v bl e = stays (at Comment v bl) is_in_line (in_comment v bl) c (10 ∷ r) e ∙ on (at Comment v bl) (at Start v bl) 10 r (feed_comment v bl)
+  comment_runs c r v bl e =
+      stays (at Comment v bl) is_in_line (in_comment v bl) c (10 ∷ r) e ∙ on (at Comment v bl) (at Start v bl) 10 r (feed_comment v bl)
 
 -- where a comment or the line's end may stand; with the settings that are kept then
 pub record IsEnd (s : State) (settings : List Setting) (section sub key : List ℕ) : Type 0 where
@@ -163,9 +173,11 @@ pub record IsEnd (s : State) (settings : List Setting) (section sub key : List �
 
 -- it comes to the front of the next line, whatever the last key and value were
 abbrev pub ComesTo : State → List ℕ → List Setting → List ℕ → List ℕ → List ℕ → Type 0
-ComesTo s text settings section sub r = (key : List ℕ) × (value : List ℕ) × (blanks : List ℕ) × (core (Some s) text ≡ core (Some (st Start settings section sub key value blanks)) r)
+ComesTo s text settings section sub r =
+    (key : List ℕ) × (value : List ℕ) × (blanks : List ℕ) × (core (Some s) text ≡ core (Some (st Start settings section sub key value blanks)) r)
 
-end_runs : (s : State) (settings : List Setting) (section sub key c r : List ℕ) → IsEnd s settings section sub key → text.is_comment c ≡ true → ComesTo s (c ++ 10 ∷ r) settings section sub r
+end_runs : (s : State) (settings : List Setting) (section sub key c r : List ℕ) → IsEnd s settings section sub key → text.is_comment c ≡ true
+    → ComesTo s (c ++ 10 ∷ r) settings section sub r
 end_runs s settings section sub key [] r end e = (key, end.value, end.blanks, ap (λ (o : Option State). core o r) end.feeds)
 end_runs s settings section sub key (b ∷ c) r end e =
     let k = and_true (is_comment_mark b) (list_all is_in_line c) e in (
@@ -176,40 +188,48 @@ end_runs s settings section sub key (b ∷ c) r end e =
     )
 
 -- the same from a state before
-pub earlier : (s t : State) (text more : List ℕ) (settings : List Setting) (section sub r : List ℕ) → core (Some s) text ≡ core (Some t) more → ComesTo t more settings section sub r → ComesTo s text settings section sub r
+pub earlier : (s t : State) (text more : List ℕ) (settings : List Setting) (section sub r : List ℕ) → core (Some s) text ≡ core (Some t) more
+    → ComesTo t more settings section sub r → ComesTo s text settings section sub r
 earlier s t text more settings section sub r e h = (h.0, h.1, h.2, e ∙ h.3)
 
-end_value : (S : List Setting) (section sub key value blanks : List ℕ) → IsEnd (st Value S section sub key value blanks) (S ++ kept section sub key value) section sub key
+end_value : (S : List Setting) (section sub key value blanks : List ℕ)
+    → IsEnd (st Value S section sub key value blanks) (S ++ kept section sub key value) section sub key
 unfolding step
 end_value S section sub key value blanks = record {
   value = value;
   blanks = blanks;
   feeds = refl;
-  marks = λ b e. mark (λ (b : ℕ). step (st Value S section sub key value blanks) b ≡ Some (st Comment (S ++ kept section sub key value) section sub key value blanks)) refl refl b e;
+  marks =
+      λ b e. mark (λ (b : ℕ). step (st Value S section sub key value blanks) b ≡ Some (st Comment (S ++ kept section sub key value) section sub key value blanks)) refl refl b e;
 }
 
-end_key : (S : List Setting) (section sub key value blanks : List ℕ) → IsEnd (st Key S section sub key value blanks) (S ++ kept section sub key value) section sub key
+end_key : (S : List Setting) (section sub key value blanks : List ℕ)
+    → IsEnd (st Key S section sub key value blanks) (S ++ kept section sub key value) section sub key
 unfolding step
 end_key S section sub key value blanks = record {
   value = value;
   blanks = blanks;
   feeds = refl;
-  marks = λ b e. mark (λ (b : ℕ). step (st Key S section sub key value blanks) b ≡ Some (st Comment (S ++ kept section sub key value) section sub key value blanks)) refl refl b e;
+  marks =
+      λ b e. mark (λ (b : ℕ). step (st Key S section sub key value blanks) b ≡ Some (st Comment (S ++ kept section sub key value) section sub key value blanks)) refl refl b e;
 }
 
-end_behind_key : (S : List Setting) (section sub key value blanks : List ℕ) → IsEnd (st BehindKey S section sub key value blanks) (S ++ kept section sub key value) section sub key
+end_behind_key : (S : List Setting) (section sub key value blanks : List ℕ)
+    → IsEnd (st BehindKey S section sub key value blanks) (S ++ kept section sub key value) section sub key
 unfolding step
 end_behind_key S section sub key value blanks = record {
   value = value;
   blanks = blanks;
   feeds = refl;
-  marks = λ b e. mark (λ (b : ℕ). step (st BehindKey S section sub key value blanks) b ≡ Some (st Comment (S ++ kept section sub key value) section sub key value blanks)) refl refl b e;
+  marks =
+      λ b e. mark (λ (b : ℕ). step (st BehindKey S section sub key value blanks) b ≡ Some (st Comment (S ++ kept section sub key value) section sub key value blanks)) refl refl b e;
 }
 
 -- where a setting may begin
 pub record IsFront (place : Place) (S : List Setting) (section sub key value blanks : List ℕ) : Type 0 where
   pub ends : IsEnd (st place S section sub key value blanks) S section sub key
-  pub begins : (b : ℕ) → is_letter b ≡ true → eqb (length section) 0 ≡ false → step (st place S section sub key value blanks) b ≡ Some (st Key S section sub (to_ascii_lowercase b ∷ []) (codes "true") blanks)
+  pub begins : (b : ℕ) → is_letter b ≡ true → eqb (length section) 0 ≡ false
+      → step (st place S section sub key value blanks) b ≡ Some (st Key S section sub (to_ascii_lowercase b ∷ []) (codes "true") blanks)
 
 pub front_start : (S : List Setting) (section sub key value blanks : List ℕ) → IsFront Start S section sub key value blanks
 unfolding step
@@ -218,7 +238,8 @@ front_start S section sub key value blanks = record {
     value = value;
     blanks = blanks;
     feeds = refl;
-    marks = λ b e. mark (λ (b : ℕ). step (st Start S section sub key value blanks) b ≡ Some (st Comment S section sub key value blanks)) refl refl b e;
+    marks =
+        λ b e. mark (λ (b : ℕ). step (st Start S section sub key value blanks) b ≡ Some (st Comment S section sub key value blanks)) refl refl b e;
   };
   begins = λ b e some. let k = letter b e in rw (k.not_open, k.not_end, k.not_blank, e, some) refl;
 }
@@ -230,7 +251,8 @@ front_indented S section sub key value blanks = record {
     value = value;
     blanks = blanks;
     feeds = refl;
-    marks = λ b e. mark (λ (b : ℕ). step (st Indented S section sub key value blanks) b ≡ Some (st Comment S section sub key value blanks)) refl refl b e;
+    marks =
+        λ b e. mark (λ (b : ℕ). step (st Indented S section sub key value blanks) b ≡ Some (st Comment S section sub key value blanks)) refl refl b e;
   };
   begins = λ b e some. let k = letter b e in rw (k.not_open, k.not_end, k.not_blank, e, some) refl;
 }
@@ -242,14 +264,16 @@ front_behind_header S section sub key value blanks = record {
     value = value;
     blanks = blanks;
     feeds = refl;
-    marks = λ b e. mark (λ (b : ℕ). step (st BehindHeader S section sub key value blanks) b ≡ Some (st Comment S section sub key value blanks)) refl refl b e;
+    marks =
+        λ b e. mark (λ (b : ℕ). step (st BehindHeader S section sub key value blanks) b ≡ Some (st Comment S section sub key value blanks)) refl refl b e;
   };
   begins = λ b e some. let k = letter b e in rw (k.not_end, k.not_blank, e, some) refl;
 }
 
 -- ---- settings
 
-step_key : (S : List Setting) (section sub key value blanks : List ℕ) (b : ℕ) → is_key_byte b ≡ true → step (st Key S section sub key value blanks) b ≡ Some (st Key S section sub (key ++ to_ascii_lowercase b ∷ []) value blanks)
+step_key : (S : List Setting) (section sub key value blanks : List ℕ) (b : ℕ) → is_key_byte b ≡ true
+    → step (st Key S section sub key value blanks) b ≡ Some (st Key S section sub (key ++ to_ascii_lowercase b ∷ []) value blanks)
 unfolding step
 step_key S section sub key value blanks b e = rw e refl
 
@@ -262,16 +286,19 @@ key_runs S section sub key value blanks (b ∷ w) r e =
     ∙ key_runs S section sub (key ++ to_ascii_lowercase b ∷ []) value blanks w r k.1
     ∙ ap (λ (k : List ℕ). core (Some (st Key S section sub k value blanks)) r) (append_assoc key (to_ascii_lowercase b ∷ []) (lower w))
 
-step_equals : (S : List Setting) (section sub key value blanks : List ℕ) → step (st Key S section sub key value blanks) 61 ≡ Some (st Value S section sub key [] [])
+step_equals : (S : List Setting) (section sub key value blanks : List ℕ)
+    → step (st Key S section sub key value blanks) 61 ≡ Some (st Value S section sub key [] [])
 unfolding step
 step_equals S section sub key value blanks = refl
 
-step_equals_behind : (S : List Setting) (section sub key value blanks : List ℕ) → step (st BehindKey S section sub key value blanks) 61 ≡ Some (st Value S section sub key [] [])
+step_equals_behind : (S : List Setting) (section sub key value blanks : List ℕ)
+    → step (st BehindKey S section sub key value blanks) 61 ≡ Some (st Value S section sub key [] [])
 unfolding step
 step_equals_behind S section sub key value blanks = refl
 
 -- from behind a key, which has the value `true` so far
-value_from : (s : State) (S : List Setting) (section sub key c r : List ℕ) (value : Option (List Part)) → IsEnd s (S ++ kept section sub key (codes "true")) section sub key
+value_from : (s : State) (S : List Setting) (section sub key c r : List ℕ) (value : Option (List Part))
+    → IsEnd s (S ++ kept section sub key (codes "true")) section sub key
     → step s 61 ≡ Some (st Value S section sub key [] []) → text.is_written value ≡ true → text.is_comment c ≡ true → ComesTo s (text.value_text value ++ (c ++ 10 ∷ r)) (S ++ kept section sub key (given value)) section sub r
 value_from s S section sub key c r None end next e ce = end_runs s (S ++ kept section sub key (codes "true")) section sub key c r end ce
 value_from s S section sub key c r (Some parts) end next e ce =
@@ -282,7 +309,8 @@ value_from s S section sub key c r (Some parts) end next e ce =
     subst (λ (x : List ℕ). ComesTo s (61 ∷ (flat_map part_text parts ++ (c ++ 10 ∷ r))) (S ++ kept section sub key x) section sub r) same
     (earlier s (st Value S section sub key v h.0) (61 ∷ (flat_map part_text parts ++ (c ++ 10 ∷ r))) (c ++ 10 ∷ r) (S ++ kept section sub key v) section sub r (ap (λ (o : Option State). core o (flat_map part_text parts ++ (c ++ 10 ∷ r))) next ∙ h.1) more)
 
-blanks_from : (S : List Setting) (section sub key bl w c r : List ℕ) (value : Option (List Part)) → list_all is_blank w ≡ true → text.is_written value ≡ true → text.is_comment c ≡ true
+blanks_from : (S : List Setting) (section sub key bl w c r : List ℕ) (value : Option (List Part)) → list_all is_blank w ≡ true
+    → text.is_written value ≡ true → text.is_comment c ≡ true
     → ComesTo (st Key S section sub key (codes "true") bl) (w ++ (text.value_text value ++ (c ++ 10 ∷ r))) (S ++ kept section sub key (given value)) section sub r
 blanks_from S section sub key bl [] c r value we ve ce =
     value_from (st Key S section sub key (codes "true") bl) S section sub key c r value (end_key S section sub key (codes "true") bl) (step_equals S section sub key (codes "true") bl) ve ce
@@ -298,7 +326,8 @@ abbrev pub then_item : Option Assignment → List ℕ → List ℕ → List ℕ
 then_item None c r = c ++ 10 ∷ r
 then_item (Some a) c r = a.key ++ (a.blanks ++ (text.value_text a.value ++ (c ++ 10 ∷ r)))
 
-key_from : (place : Place) (S : List Setting) (section sub k v bl key w c r : List ℕ) (value : Option (List Part)) → IsFront place S section sub k v bl
+key_from : (place : Place) (S : List Setting) (section sub k v bl key w c r : List ℕ) (value : Option (List Part))
+    → IsFront place S section sub k v bl
     → eqb (length section) 0 ≡ false → text.is_key key ≡ true → list_all is_blank w ≡ true → text.is_written value ≡ true → text.is_comment c ≡ true
     → ComesTo (st place S section sub k v bl) (key ++ (w ++ (text.value_text value ++ (c ++ 10 ∷ r)))) (S ++ kept section sub (lower key) (given value)) section sub r
 key_from place S section sub k v bl [] w c r value front some ke we ve ce = absurd cc
@@ -310,7 +339,8 @@ key_from place S section sub k v bl (b ∷ key) w c r value front some ke we ve 
     ∙ key_runs S section sub (to_ascii_lowercase b ∷ []) (codes "true") bl key (w ++ (text.value_text value ++ (c ++ 10 ∷ r))) both.1)
     (blanks_from S section sub (lower (b ∷ key)) bl w c r value we ve ce)
 
-pub item_from : (place : Place) (S : List Setting) (section sub k v bl c r : List ℕ) (a : Option Assignment) → IsFront place S section sub k v bl → text.is_assignment section a ≡ true → text.is_comment c ≡ true
+pub item_from : (place : Place) (S : List Setting) (section sub k v bl c r : List ℕ) (a : Option Assignment) → IsFront place S section sub k v bl
+    → text.is_assignment section a ≡ true → text.is_comment c ≡ true
     → ComesTo (st place S section sub k v bl) (then_item a c r) (S ++ assigned section sub a) section sub r
 item_from place S section sub k v bl c r None front ae ce =
     subst (λ (x : List Setting). ComesTo (st place S section sub k v bl) (c ++ 10 ∷ r) x section sub r) (sym (append-nil S)) (end_runs (st place S section sub k v bl) S section sub k c r front.ends ce)

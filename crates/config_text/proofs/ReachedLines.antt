@@ -33,11 +33,13 @@ module _ (S : List Setting) (key value blanks : List ℕ) where
   on : (s t : State) (b : ℕ) (bs : List ℕ) → step s b ≡ Some t → core (Some s) (b ∷ bs) ≡ core (Some t) bs
   on s t b bs e = ap (λ (o : Option State). core o bs) e
 
-  step_section : (section sub : List ℕ) (b : ℕ) → is_section_byte b ≡ true → step (at Section section sub) b ≡ Some (at Section (section ++ to_ascii_lowercase b ∷ []) sub)
+  step_section : (section sub : List ℕ) (b : ℕ) → is_section_byte b ≡ true
+      → step (at Section section sub) b ≡ Some (at Section (section ++ to_ascii_lowercase b ∷ []) sub)
   unfolding step
   step_section section sub b e = rw e refl
 
-  section_runs : (section sub w r : List ℕ) → list_all is_section_byte w ≡ true → core (Some (at Section section sub)) (w ++ r) ≡ core (Some (at Section (section ++ lower w) sub)) r
+  section_runs : (section sub w r : List ℕ) → list_all is_section_byte w ≡ true
+      → core (Some (at Section section sub)) (w ++ r) ≡ core (Some (at Section (section ++ lower w) sub)) r
   section_runs section sub [] r e = ap (λ (x : List ℕ). core (Some (at Section x sub)) r) (sym (append-nil section))
   section_runs section sub (b ∷ w) r e =
       let k = and_true (is_section_byte b) (list_all is_section_byte w) e in
@@ -49,9 +51,11 @@ module _ (S : List Setting) (key value blanks : List ℕ) where
   unfolding step
   step_close section sub some = rw some refl
 
-  step_blank : (section sub : List ℕ) (b : ℕ) → eqb (length section) 0 ≡ false → is_blank b ≡ true → step (at Section section sub) b ≡ Some (at BehindSection section sub)
+  step_blank : (section sub : List ℕ) (b : ℕ) → eqb (length section) 0 ≡ false → is_blank b ≡ true
+      → step (at Section section sub) b ≡ Some (at BehindSection section sub)
   unfolding step
-  step_blank section sub b some e = blank (λ (b : ℕ). step (at Section section sub) b ≡ Some (at BehindSection section sub)) (rw some refl) (rw some refl) b e
+  step_blank section sub b some e =
+      blank (λ (b : ℕ). step (at Section section sub) b ≡ Some (at BehindSection section sub)) (rw some refl) (rw some refl) b e
 
   step_open : (section sub : List ℕ) → step (at BehindSection section sub) 34 ≡ Some (at Sub section sub)
   unfolding step
@@ -104,7 +108,8 @@ module _ (S : List Setting) (key value blanks : List ℕ) where
       ∙ on (at Sub section (sub ++ map sub_part_byte parts)) (at BehindSub section (sub ++ map sub_part_byte parts)) 34 (93 ∷ r) (step_end section (sub ++ map sub_part_byte parts))
       ∙ on (at BehindSub section (sub ++ map sub_part_byte parts)) (at BehindHeader section (sub ++ map sub_part_byte parts)) 93 r (step_close_sub section (sub ++ map sub_part_byte parts))
 
-  blanks_run : (section sub w : List ℕ) (parts : List SubPart) (r : List ℕ) → eqb (length section) 0 ≡ false → eqb (length w) 0 ≡ false → list_all is_blank w ≡ true → list_all is_sub_part parts ≡ true
+  blanks_run : (section sub w : List ℕ) (parts : List SubPart) (r : List ℕ) → eqb (length section) 0 ≡ false → eqb (length w) 0 ≡ false
+      → list_all is_blank w ≡ true → list_all is_sub_part parts ≡ true
       → core (Some (at Section section sub)) (w ++ (34 ∷ (flat_map sub_part_text parts ++ (34 ∷ 93 ∷ r)))) ≡ core (Some (at BehindHeader section (sub ++ map sub_part_byte parts))) r
   blanks_run section sub [] parts r some long we pe = absurd cc
   blanks_run section sub (b ∷ w) parts r some long we pe =
@@ -132,7 +137,8 @@ module _ (S : List Setting) (key value blanks : List ℕ) where
       longer : (w : List ℕ) → eqb (length (b ∷ w)) 0 ≡ false → eqb (length (lower (b ∷ w))) 0 ≡ false
       longer w e = ap (λ (n : ℕ). eqb n 0) (same (b ∷ w)) ∙ e
 
-  header_runs : (place : Place) (section sub : List ℕ) (h : Header) (r : List ℕ) → step (at place section sub) 91 ≡ Some (at Section [] []) → text.is_header (Some h) ≡ true
+  header_runs : (place : Place) (section sub : List ℕ) (h : Header) (r : List ℕ) → step (at place section sub) 91 ≡ Some (at Section [] [])
+      → text.is_header (Some h) ≡ true
       → core (Some (at place section sub)) (then_header (Some h) r) ≡ core (Some (at BehindHeader (lower h.section) (sub_of h.sub))) r
   header_runs place section sub h r opens e =
       let one = and_true (not (eqb (length h.section) 0) && list_all is_section_byte h.section && text.is_sub h.sub) (list_all is_blank h.blanks) e in
@@ -144,7 +150,8 @@ module _ (S : List Setting) (key value blanks : List ℕ) where
       ∙ stays S (lower h.section) (sub_of h.sub) key (at BehindHeader (lower h.section) (sub_of h.sub)) is_blank (blank_behind_header S (lower h.section) (sub_of h.sub) key value blanks) h.blanks r one.1
 
   -- from the front of a line, behind its blanks
-  line_from : (place : Place) (section sub : List ℕ) (h : Option Header) (a : Option Assignment) (c r : List ℕ) → step (at place section sub) 91 ≡ Some (at Section [] []) → IsFront place S section sub key value blanks
+  line_from : (place : Place) (section sub : List ℕ) (h : Option Header) (a : Option Assignment) (c r : List ℕ)
+      → step (at place section sub) 91 ≡ Some (at Section [] []) → IsFront place S section sub key value blanks
       → text.is_header h ≡ true → text.is_assignment (section_behind section h) a ≡ true → text.is_comment c ≡ true
       → ComesTo (at place section sub) (then_header h (then_item a c r)) (S ++ assigned (section_behind section h) (sub_behind sub h) a) (section_behind section h) (sub_behind sub h) r
   line_from place section sub None a c r opens front he ae ce = item_from place S section sub key value blanks c r a front ae ce
@@ -164,7 +171,8 @@ module _ (S : List Setting) (key value blanks : List ℕ) where
   indent_from : (section sub w : List ℕ) (h : Option Header) (a : Option Assignment) (c r : List ℕ) → list_all is_blank w ≡ true
       → text.is_header h ≡ true → text.is_assignment (section_behind section h) a ≡ true → text.is_comment c ≡ true
       → ComesTo (at Start section sub) (w ++ then_header h (then_item a c r)) (S ++ assigned (section_behind section h) (sub_behind sub h) a) (section_behind section h) (sub_behind sub h) r
-  indent_from section sub [] h a c r we he ae ce = line_from Start section sub h a c r (opens_start section sub) (front_start S section sub key value blanks) he ae ce
+  indent_from section sub [] h a c r we he ae ce =
+      line_from Start section sub h a c r (opens_start section sub) (front_start S section sub key value blanks) he ae ce
   indent_from section sub (b ∷ w) h a c r we he ae ce =
       let k = and_true (is_blank b) (list_all is_blank w) we in
       earlier (at Start section sub) (at Indented section sub) (b ∷ (w ++ then_header h (then_item a c r))) (then_header h (then_item a c r)) (S ++ assigned (section_behind section h) (sub_behind sub h) a) (section_behind section h) (sub_behind sub h) r

@@ -10,7 +10,8 @@ use Rattle.config_text.specs.Reading.{State, step, may_return}
 use Rattle.config_text.specs.Returns.{Front, fed, settled, unreturned, then_feed, feed, close, or_end, going, read_from}
 
 abbrev pub st : Place → List Setting → List ℕ → List ℕ → List ℕ → List ℕ → List ℕ → State
-st place settings section sub key value blanks = record { place = place; settings = settings; section = section; sub = sub; key = key; value = value; blanks = blanks }
+st place settings section sub key value blanks =
+    record { place = place; settings = settings; section = section; sub = sub; key = key; value = value; blanks = blanks }
 
 -- ---- where a run stops
 
@@ -45,7 +46,8 @@ failing f [] left e = at (close f) refl e
     at (Some x) is e = absurd cc
 failing f (b ∷ bs) left e = at (feed f b) refl e (λ g d. failing g bs left d)
   where
-    at : (o : Option Front) → feed f b ≡ o → going o (suc (length bs)) (λ g. read_from g bs) ≡ Err left → ((g : Front) → read_from g bs ≡ Err left → Failing g bs left) → Failing f (b ∷ bs) left
+    at : (o : Option Front) → feed f b ≡ o → going o (suc (length bs)) (λ g. read_from g bs) ≡ Err left
+        → ((g : Front) → read_from g bs ≡ Err left → Failing g bs left) → Failing f (b ∷ bs) left
     at None is e more = record { front = []; back = b ∷ bs; now = f; parts = refl; left_is = cc; went = refl; dead = is }
     at (Some g) is e more =
         let k = more g e in
@@ -64,10 +66,12 @@ unfolding read_from
 goes f g [] more e = let k : f ≡ g = cc in ap (λ (h : Front). read_from h more) k
 goes f g (b ∷ front) more e = at (feed f b) refl e (λ h d. goes h g front more d)
   where
-    at : (o : Option Front) → feed f b ≡ o → ran o front ≡ Some g → ((h : Front) → ran (Some h) front ≡ Some g → read_from h (front ++ more) ≡ read_from g more)
+    at : (o : Option Front) → feed f b ≡ o → ran o front ≡ Some g
+        → ((h : Front) → ran (Some h) front ≡ Some g → read_from h (front ++ more) ≡ read_from g more)
         → going (feed f b) (suc (length (front ++ more))) (λ h. read_from h (front ++ more)) ≡ read_from g more
     at None is e step = absurd cc
-    at (Some h) is e step = ap (λ (o : Option Front). going o (suc (length (front ++ more))) (λ (h : Front). read_from h (front ++ more))) is ∙ step h e
+    at (Some h) is e step =
+        ap (λ (o : Option Front). going o (suc (length (front ++ more))) (λ (h : Front). read_from h (front ++ more))) is ∙ step h e
 
 pub dead_on : (f : Front) (b : ℕ) (more : List ℕ) (x : List Setting) → feed f b ≡ None → read_from f (b ∷ more) ≡ Ok x → ⊥
 unfolding read_from
@@ -98,12 +102,14 @@ finish_line place = 10 ∷ []
 pub some_length : (b : ℕ) (bs : List ℕ) → eqb (length (b ∷ bs)) 0 ≡ false
 some_length b bs = ne_eqb (length (b ∷ bs)) 0 (λ h. absurd (omega arith))
 
-finishes_section : (settings : List Setting) (section sub key value blanks : List ℕ) → is_ok (read_from (fed (st Section settings section sub key value blanks)) (finish Section)) ≡ true
+finishes_section : (settings : List Setting) (section sub key value blanks : List ℕ)
+    → is_ok (read_from (fed (st Section settings section sub key value blanks)) (finish Section)) ≡ true
 unfolding read_from feed close step
 finishes_section settings [] sub key value blanks = refl
 finishes_section settings (c ∷ cs) sub key value blanks = rw (some_length c (cs ++ 97 ∷ [])) refl
 
-finishes : (place : Place) (settings : List Setting) (section sub key value blanks : List ℕ) → is_ok (read_from (fed (st place settings section sub key value blanks)) (finish place)) ≡ true
+finishes : (place : Place) (settings : List Setting) (section sub key value blanks : List ℕ)
+    → is_ok (read_from (fed (st place settings section sub key value blanks)) (finish place)) ≡ true
 unfolding read_from feed close step
 finishes Start settings section sub key value blanks = refl
 finishes Indented settings section sub key value blanks = refl
@@ -168,7 +174,8 @@ then_feed_live : (o : Option State) (b : ℕ) (g : Front) → then_feed o b ≡ 
 then_feed_live None b g e = absurd cc
 then_feed_live (Some s) b g e = at (eqb b 13) (may_return s.place) refl e
   where
-    at : (t u : Bool) → may_return s.place ≡ u → cond t (cond u (Some (record { state = s; returned = true })) None) (unreturned (step s b)) ≡ Some g → IsLive g
+    at : (t u : Bool) → may_return s.place ≡ u → cond t (cond u (Some (record { state = s; returned = true })) None) (unreturned (step s b)) ≡ Some g
+        → IsLive g
     at false u may e = fed_live (step s b) g e
     at true false may e = absurd cc
     at true true may e = λ h. let same : s ≡ g.state = cc in ap (λ (x : State). may_return x.place) (sym same) ∙ may

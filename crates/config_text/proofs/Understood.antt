@@ -40,7 +40,8 @@ module _ (out : List Setting) where
   FromStart S section sub r = (ls : List Line) × (are_lines section ls ≡ true) × (r ≡ flat_map line_text ls) × (out ≡ S ++ settings_of section sub ls)
 
   abbrev pub FromComment : List Setting → List ℕ → List ℕ → List ℕ → Type 0
-  FromComment S section sub r = (c : List ℕ) × (behind : List ℕ) × (list_all is_in_line c ≡ true) × (r ≡ c ++ 10 ∷ behind) × FromStart S section sub behind
+  FromComment S section sub r =
+      (c : List ℕ) × (behind : List ℕ) × (list_all is_in_line c ≡ true) × (r ≡ c ++ 10 ∷ behind) × FromStart S section sub behind
 
   -- a comment may stand there, and the line ends
   abbrev pub FromEnd : List Setting → List ℕ → List ℕ → List ℕ → Type 0
@@ -61,7 +62,8 @@ module _ (out : List Setting) where
       × FromEnd (S ++ kept section sub key (given value)) section sub behind
 
   abbrev pub FromKey : List Setting → List ℕ → List ℕ → List ℕ → List ℕ → Type 0
-  FromKey S section sub key r = (more : List ℕ) × (behind : List ℕ) × (list_all is_key_byte more ≡ true) × (r ≡ more ++ behind) × FromBehindKey S section sub (key ++ lower more) behind
+  FromKey S section sub key r =
+      (more : List ℕ) × (behind : List ℕ) × (list_all is_key_byte more ≡ true) × (r ≡ more ++ behind) × FromBehindKey S section sub (key ++ lower more) behind
 
   -- a setting or a comment may stand there
   abbrev pub FromItem : List Setting → List ℕ → List ℕ → List ℕ → Type 0
@@ -70,7 +72,8 @@ module _ (out : List Setting) where
       × FromStart (S ++ assigned section sub a) section sub behind
 
   abbrev pub FromBehindHeader : List Setting → List ℕ → List ℕ → List ℕ → Type 0
-  FromBehindHeader S section sub r = (w : List ℕ) × (behind : List ℕ) × (list_all is_blank w ≡ true) × (r ≡ w ++ behind) × FromItem S section sub behind
+  FromBehindHeader S section sub r =
+      (w : List ℕ) × (behind : List ℕ) × (list_all is_blank w ≡ true) × (r ≡ w ++ behind) × FromItem S section sub behind
 
   abbrev pub FromSub : List Setting → List ℕ → List ℕ → List ℕ → Type 0
   FromSub S section sub r =
@@ -84,7 +87,8 @@ module _ (out : List Setting) where
   FromBehindSub S section sub r = (behind : List ℕ) × (r ≡ 93 ∷ behind) × FromBehindHeader S section sub behind
 
   abbrev pub FromBehindSection : List Setting → List ℕ → List ℕ → List ℕ → Type 0
-  FromBehindSection S section sub r = (w : List ℕ) × (behind : List ℕ) × (list_all is_blank w ≡ true) × (r ≡ w ++ (34 ∷ behind)) × FromSub S section sub behind
+  FromBehindSection S section sub r =
+      (w : List ℕ) × (behind : List ℕ) × (list_all is_blank w ≡ true) × (r ≡ w ++ (34 ∷ behind)) × FromSub S section sub behind
 
   abbrev pub FromSection : List Setting → List ℕ → List ℕ → List ℕ → Type 0
   FromSection S section sub r =
@@ -118,7 +122,8 @@ module _ (out : List Setting) where
 
   -- it is so from each state
   abbrev pub Back : List ℕ → Type 0
-  Back r = (p : Place) (S : List Setting) (section sub key v bl : List ℕ) → core (Some (st p S section sub key v bl)) r ≡ Some out → From p S section sub key v bl r
+  Back r =
+      (p : Place) (S : List Setting) (section sub key v bl : List ℕ) → core (Some (st p S section sub key v bl)) r ≡ Some out → From p S section sub key v bl r
 
   -- ---- one byte, and what follows
 
@@ -132,13 +137,15 @@ module _ (out : List Setting) where
       → core (Some (st (behind_end b) S section sub key v bl)) bs ≡ Some out → FromEnd S section sub (b ∷ bs)
   back_end b bs S section sub key v bl back ends e = at (eqb b 10) refl ends e
     where
-      at : (t : Bool) → eqb b 10 ≡ t → (t || is_comment_mark b) ≡ true → core (Some (st (cond t place.Start place.Comment) S section sub key v bl)) bs ≡ Some out → FromEnd S section sub (b ∷ bs)
+      at : (t : Bool) → eqb b 10 ≡ t → (t || is_comment_mark b) ≡ true
+          → core (Some (st (cond t place.Start place.Comment) S section sub key v bl)) bs ≡ Some out → FromEnd S section sub (b ∷ bs)
       at true is ends e = ([], bs, refl, cons b 10 bs (eqb-true b 10 is), back place.Start S section sub key v bl e)
       at false is ends e =
           let k = back place.Comment S section sub key v bl e in
           (b ∷ k.0, k.1, both (is_comment_mark b) (list_all is_in_line k.0) ends k.2, behind_byte b k.3, k.4)
 
-  pub back_comment : (b : ℕ) (bs : List ℕ) (S : List Setting) (section sub key v bl : List ℕ) → Back bs → core (step (st place.Comment S section sub key v bl) b) bs ≡ Some out → FromComment S section sub (b ∷ bs)
+  pub back_comment : (b : ℕ) (bs : List ℕ) (S : List Setting) (section sub key v bl : List ℕ) → Back bs
+      → core (step (st place.Comment S section sub key v bl) b) bs ≡ Some out → FromComment S section sub (b ∷ bs)
   unfolding step
   back_comment b bs S section sub key v bl back e =
       elim (split (eqb b 10) (Some (st place.Start S section sub key v bl)) (Some (st place.Comment S section sub key v bl)) bs out e) [
@@ -150,11 +157,13 @@ module _ (out : List Setting) where
 
   -- ---- values
 
-  end_value : (q : Bool) (S : List Setting) (section sub key v bl r : List ℕ) → q ≡ false → FromEnd (S ++ kept section sub key v) section sub r → FromValue q S section sub key v bl r
+  end_value : (q : Bool) (S : List Setting) (section sub key v bl r : List ℕ) → q ≡ false → FromEnd (S ++ kept section sub key v) section sub r
+      → FromValue q S section sub key v bl r
   end_value true S section sub key v bl r q-is k = absurd cc
   end_value false S section sub key v bl r q-is k = ([], r, refl, refl, k)
 
-  more_byte : (q : Bool) (b : ℕ) (S : List Setting) (section sub key v bl r : List ℕ) → is_itself q b ≡ true → (not q && is_blank b) ≡ false → FromValue q S section sub key (v ++ bl ++ b ∷ []) [] r → FromValue q S section sub key v bl (b ∷ r)
+  more_byte : (q : Bool) (b : ℕ) (S : List Setting) (section sub key v bl r : List ℕ) → is_itself q b ≡ true → (not q && is_blank b) ≡ false
+      → FromValue q S section sub key (v ++ bl ++ b ∷ []) [] r → FromValue q S section sub key v bl (b ∷ r)
   more_byte q b S section sub key v bl r it tight k =
       let same : gathered v bl (marks q (Byte b ∷ k.0)) ≡ gathered (v ++ bl ++ b ∷ []) [] (marks q k.0) = rw tight refl in
       (Byte b ∷ k.0, k.1, both (is_itself q b) (is_value q k.0) it k.2, behind_byte b k.3, subst (λ (x : List ℕ). FromEnd (S ++ kept section sub key x) section sub k.1) (sym same) k.4)
@@ -168,20 +177,24 @@ module _ (out : List Setting) where
       let same : gathered v bl (marks false (Byte b ∷ k.0)) ≡ gathered v (bl ++ b ∷ []) (marks false k.0) = rw (loose, some) refl in
       (Byte b ∷ k.0, k.1, both (is_itself false b) (is_value false k.0) it k.2, behind_byte b k.3, subst (λ (x : List ℕ). FromEnd (S ++ kept section sub key x) section sub k.1) (sym same) k.4)
 
-  quote : (q : Bool) (b : ℕ) (S : List Setting) (section sub key v bl r : List ℕ) → b ≡ 34 → FromValue (not q) S section sub key v bl r → FromValue q S section sub key v bl (b ∷ r)
+  quote : (q : Bool) (b : ℕ) (S : List Setting) (section sub key v bl r : List ℕ) → b ≡ 34 → FromValue (not q) S section sub key v bl r
+      → FromValue q S section sub key v bl (b ∷ r)
   quote q b S section sub key v bl r e k = (Quote ∷ k.0, k.1, k.2, cons b 34 r e ∙ behind_byte 34 k.3, k.4)
 
-  backslash : (q : Bool) (b : ℕ) (S : List Setting) (section sub key v bl r : List ℕ) → b ≡ 92 → FromEscape q S section sub key v bl r → FromValue q S section sub key v bl (b ∷ r)
+  backslash : (q : Bool) (b : ℕ) (S : List Setting) (section sub key v bl r : List ℕ) → b ≡ 92 → FromEscape q S section sub key v bl r
+      → FromValue q S section sub key v bl (b ∷ r)
   backslash q b S section sub key v bl r e (c, behind, is, inl (feed, k)) =
       (Join ∷ k.0, k.1, k.2, cons b 92 r e ∙ behind_byte 92 (is ∙ cons c 10 behind feed ∙ behind_byte 10 k.3), k.4)
   backslash q b S section sub key v bl r e (c, behind, is, inr (d, shows, k)) =
       let same : gathered v bl (marks q (Escape c ∷ k.0)) ≡ gathered (v ++ bl ++ d ∷ []) [] (marks q k.0) = ap (λ (o : Option ℕ). gathered (v ++ bl ++ unwrap_or o c ∷ []) [] (marks q k.0)) shows in
       (Escape c ∷ k.0, k.1, both (is_some (escaped c)) (is_value q k.0) (ap is_some shows) k.2, cons b 92 r e ∙ behind_byte 92 (is ∙ behind_byte c k.3), subst (λ (x : List ℕ). FromEnd (S ++ kept section sub key x) section sub k.1) (sym same) k.4)
 
-  one_itself : (q : Bool) (b : ℕ) → eqb b 10 ≡ false → eqb b 34 ≡ false → eqb b 92 ≡ false → (q || not (is_comment_mark b)) ≡ true → is_itself q b ≡ true
+  one_itself : (q : Bool) (b : ℕ) → eqb b 10 ≡ false → eqb b 34 ≡ false → eqb b 92 ≡ false → (q || not (is_comment_mark b)) ≡ true
+      → is_itself q b ≡ true
   one_itself q b feed quote back marked = rw (feed, quote, back, marked) refl
 
-  pub back_value : (b : ℕ) (bs : List ℕ) (S : List Setting) (section sub key v bl : List ℕ) → Back bs → core (step (st place.Value S section sub key v bl) b) bs ≡ Some out → FromValue false S section sub key v bl (b ∷ bs)
+  pub back_value : (b : ℕ) (bs : List ℕ) (S : List Setting) (section sub key v bl : List ℕ) → Back bs
+      → core (step (st place.Value S section sub key v bl) b) bs ≡ Some out → FromValue false S section sub key v bl (b ∷ bs)
   unfolding step
   back_value b bs S section sub key v bl back e = at (is_end b) (eqb b 34) (eqb b 92) (is_blank b) (eqb (length v) 0) refl refl refl refl refl e
     where
@@ -198,14 +211,21 @@ module _ (out : List Setting) where
           (cond x (Some (cond y (st place.Value S section sub key v bl) (st place.Value S section sub key v (bl ++ b ∷ [])))) (Some (st place.Value S section sub key (v ++ bl ++ b ∷ []) []))))))
           bs ≡ Some out
           → FromValue false S section sub key v bl (b ∷ bs)
-      at true u w x y t-is u-is w-is x-is y-is e = end_value false S section sub key v bl (b ∷ bs) refl (back_end b bs (S ++ kept section sub key v) section sub key v bl back t-is e)
-      at false true w x y t-is u-is w-is x-is y-is e = quote false b S section sub key v bl bs (eqb-true b 34 u-is) (back place.Quoted S section sub key v bl e)
-      at false false true x y t-is u-is w-is x-is y-is e = backslash false b S section sub key v bl bs (eqb-true b 92 w-is) (back place.ValueEscape S section sub key v bl e)
-      at false false false true true t-is u-is w-is x-is y-is e = more_blank b S section sub key v bl bs (tight t-is u-is w-is) x-is (inl (y-is, back place.Value S section sub key v bl e))
-      at false false false true false t-is u-is w-is x-is y-is e = more_blank b S section sub key v bl bs (tight t-is u-is w-is) x-is (inr (y-is, back place.Value S section sub key v (bl ++ b ∷ []) e))
-      at false false false false y t-is u-is w-is x-is y-is e = more_byte false b S section sub key v bl bs (tight t-is u-is w-is) x-is (back place.Value S section sub key (v ++ bl ++ b ∷ []) [] e)
+      at true u w x y t-is u-is w-is x-is y-is e =
+          end_value false S section sub key v bl (b ∷ bs) refl (back_end b bs (S ++ kept section sub key v) section sub key v bl back t-is e)
+      at false true w x y t-is u-is w-is x-is y-is e =
+          quote false b S section sub key v bl bs (eqb-true b 34 u-is) (back place.Quoted S section sub key v bl e)
+      at false false true x y t-is u-is w-is x-is y-is e =
+          backslash false b S section sub key v bl bs (eqb-true b 92 w-is) (back place.ValueEscape S section sub key v bl e)
+      at false false false true true t-is u-is w-is x-is y-is e =
+          more_blank b S section sub key v bl bs (tight t-is u-is w-is) x-is (inl (y-is, back place.Value S section sub key v bl e))
+      at false false false true false t-is u-is w-is x-is y-is e =
+          more_blank b S section sub key v bl bs (tight t-is u-is w-is) x-is (inr (y-is, back place.Value S section sub key v (bl ++ b ∷ []) e))
+      at false false false false y t-is u-is w-is x-is y-is e =
+          more_byte false b S section sub key v bl bs (tight t-is u-is w-is) x-is (back place.Value S section sub key (v ++ bl ++ b ∷ []) [] e)
 
-  pub back_quotes : (b : ℕ) (bs : List ℕ) (S : List Setting) (section sub key v bl : List ℕ) → Back bs → core (step (st place.Quoted S section sub key v bl) b) bs ≡ Some out → FromValue true S section sub key v bl (b ∷ bs)
+  pub back_quotes : (b : ℕ) (bs : List ℕ) (S : List Setting) (section sub key v bl : List ℕ) → Back bs
+      → core (step (st place.Quoted S section sub key v bl) b) bs ≡ Some out → FromValue true S section sub key v bl (b ∷ bs)
   unfolding step
   back_quotes b bs S section sub key v bl back e = at (eqb b 10) (eqb b 34) (eqb b 92) refl refl refl e
     where
@@ -218,16 +238,21 @@ module _ (out : List Setting) where
           → FromValue true S section sub key v bl (b ∷ bs)
       at true u w t-is u-is w-is e = none out bs e
       at false true w t-is u-is w-is e = quote true b S section sub key v bl bs (eqb-true b 34 u-is) (back place.Value S section sub key v bl e)
-      at false false true t-is u-is w-is e = backslash true b S section sub key v bl bs (eqb-true b 92 w-is) (back place.QuotedEscape S section sub key v bl e)
-      at false false false t-is u-is w-is e = more_byte true b S section sub key v bl bs (one_itself true b t-is u-is w-is refl) refl (back place.Quoted S section sub key (v ++ bl ++ b ∷ []) [] e)
+      at false false true t-is u-is w-is e =
+          backslash true b S section sub key v bl bs (eqb-true b 92 w-is) (back place.QuotedEscape S section sub key v bl e)
+      at false false false t-is u-is w-is e =
+          more_byte true b S section sub key v bl bs (one_itself true b t-is u-is w-is refl) refl (back place.Quoted S section sub key (v ++ bl ++ b ∷ []) [] e)
 
-  value_place : (q : Bool) (S : List Setting) (section sub key v bl r : List ℕ) → From (in_value q) S section sub key v bl r → FromValue q S section sub key v bl r
+  value_place : (q : Bool) (S : List Setting) (section sub key v bl r : List ℕ) → From (in_value q) S section sub key v bl r
+      → FromValue q S section sub key v bl r
   value_place true S section sub key v bl r k = k
   value_place false S section sub key v bl r k = k
 
   pub back_escape : (q : Bool) (b : ℕ) (bs : List ℕ) (S : List Setting) (section sub key v bl : List ℕ) → Back bs
       → (t : Bool) → eqb b 10 ≡ t → (o : Option ℕ) → escaped b ≡ o
       → core (cond t (Some (st (in_value q) S section sub key v bl)) (with_escaped (in_value q) (st (in_value q) S section sub key v bl) o)) bs ≡ Some out → FromEscape q S section sub key v bl (b ∷ bs)
-  back_escape q b bs S section sub key v bl back true t-is o o-is e = (b, bs, refl, inl (eqb-true b 10 t-is, value_place q S section sub key v bl bs (back (in_value q) S section sub key v bl e)))
+  back_escape q b bs S section sub key v bl back true t-is o o-is e =
+      (b, bs, refl, inl (eqb-true b 10 t-is, value_place q S section sub key v bl bs (back (in_value q) S section sub key v bl e)))
   back_escape q b bs S section sub key v bl back false t-is None o-is e = none out bs e
-  back_escape q b bs S section sub key v bl back false t-is (Some c) o-is e = (b, bs, refl, inr (c, o-is, value_place q S section sub key (v ++ bl ++ c ∷ []) [] bs (back (in_value q) S section sub key (v ++ bl ++ c ∷ []) [] e)))
+  back_escape q b bs S section sub key v bl back false t-is (Some c) o-is e =
+      (b, bs, refl, inr (c, o-is, value_place q S section sub key (v ++ bl ++ c ∷ []) [] bs (back (in_value q) S section sub key (v ++ bl ++ c ∷ []) [] e)))

@@ -28,11 +28,13 @@ some_name (b ∷ w) e = some_length b w
 module _ (out : List Setting) where
   -- ---- keys
 
-  written : (S : List Setting) (section sub key r : List ℕ) → FromValue out false S section sub key [] [] r → FromBehindKey out S section sub key (61 ∷ r)
+  written : (S : List Setting) (section sub key r : List ℕ) → FromValue out false S section sub key [] [] r
+      → FromBehindKey out S section sub key (61 ∷ r)
   written S section sub key r k =
       ([], Some k.0, k.1, refl, k.2, behind_byte out 61 k.3, subst (λ (x : List ℕ). FromEnd out (S ++ kept section sub key x) section sub k.1) (gathered_is (marks false k.0)) k.4)
 
-  back_behind_key_at : (b : ℕ) (bs : List ℕ) (S : List Setting) (section sub key v bl : List ℕ) → v ≡ codes "true" → Back out bs → (t u w : Bool) → eqb b 61 ≡ t → is_blank b ≡ u → is_end b ≡ w
+  back_behind_key_at : (b : ℕ) (bs : List ℕ) (S : List Setting) (section sub key v bl : List ℕ) → v ≡ codes "true" → Back out bs → (t u w : Bool)
+      → eqb b 61 ≡ t → is_blank b ≡ u → is_end b ≡ w
       → core
       (cond t (Some (st place.Value S section sub key [] []))
       (cond u (Some (st place.BehindKey S section sub key v bl)) (cond w (Some (st (behind_end b) (S ++ kept section sub key v) section sub key v bl)) None)))
@@ -48,12 +50,15 @@ module _ (out : List Setting) where
       ([], None, b ∷ bs, refl, refl, refl, subst (λ (x : List ℕ). FromEnd out (S ++ kept section sub key x) section sub (b ∷ bs)) v-is k)
   back_behind_key_at b bs S section sub key v bl v-is back false false false t-is u-is w-is e = none out bs e
 
-  back_behind_key : (b : ℕ) (bs : List ℕ) (S : List Setting) (section sub key v bl : List ℕ) → Back out bs → core (step (st place.BehindKey S section sub key v bl) b) bs ≡ Some out
+  back_behind_key : (b : ℕ) (bs : List ℕ) (S : List Setting) (section sub key v bl : List ℕ) → Back out bs
+      → core (step (st place.BehindKey S section sub key v bl) b) bs ≡ Some out
       → v ≡ codes "true" → FromBehindKey out S section sub key (b ∷ bs)
   unfolding step
-  back_behind_key b bs S section sub key v bl back e v-is = back_behind_key_at b bs S section sub key v bl v-is back (eqb b 61) (is_blank b) (is_end b) refl refl refl e
+  back_behind_key b bs S section sub key v bl back e v-is =
+      back_behind_key_at b bs S section sub key v bl v-is back (eqb b 61) (is_blank b) (is_end b) refl refl refl e
 
-  back_key : (b : ℕ) (bs : List ℕ) (S : List Setting) (section sub key v bl : List ℕ) → Back out bs → core (step (st place.Key S section sub key v bl) b) bs ≡ Some out
+  back_key : (b : ℕ) (bs : List ℕ) (S : List Setting) (section sub key v bl : List ℕ) → Back out bs
+      → core (step (st place.Key S section sub key v bl) b) bs ≡ Some out
       → v ≡ codes "true" → FromKey out S section sub key (b ∷ bs)
   unfolding step
   back_key b bs S section sub key v bl back e v-is = at (is_key_byte b) refl e
@@ -76,9 +81,11 @@ module _ (out : List Setting) where
 
   -- at the end of the line, or at a comment
   item_end : (S : List Setting) (section sub r : List ℕ) → FromEnd out S section sub r → FromItem out S section sub r
-  item_end S section sub r k = (None, k.0, k.1, refl, k.2, k.3, subst (λ (x : List Setting). FromStart out x section sub k.1) (sym (append-nil S)) k.4)
+  item_end S section sub r k =
+      (None, k.0, k.1, refl, k.2, k.3, subst (λ (x : List Setting). FromStart out x section sub k.1) (sym (append-nil S)) k.4)
 
-  item_key : (b : ℕ) (S : List Setting) (section sub r : List ℕ) → is_letter b ≡ true → eqb (length section) 0 ≡ false → FromKey out S section sub (to_ascii_lowercase b ∷ []) r → FromItem out S section sub (b ∷ r)
+  item_key : (b : ℕ) (S : List Setting) (section sub r : List ℕ) → is_letter b ≡ true → eqb (length section) 0 ≡ false
+      → FromKey out S section sub (to_ascii_lowercase b ∷ []) r → FromItem out S section sub (b ∷ r)
   item_key b S section sub r letter some k =
       let value = k.4 in
       let end = value.6 in (
@@ -94,7 +101,8 @@ module _ (out : List Setting) where
       )
 
   -- a blank, or such
-  back_item : (q : Place) (b : ℕ) (bs : List ℕ) (p : Place) (S : List Setting) (section sub key v bl : List ℕ) → Back out bs → core (at_item q (st p S section sub key v bl) b) bs ≡ Some out
+  back_item : (q : Place) (b : ℕ) (bs : List ℕ) (p : Place) (S : List Setting) (section sub key v bl : List ℕ) → Back out bs
+      → core (at_item q (st p S section sub key v bl) b) bs ≡ Some out
       → ((is_blank b ≡ true) × (core (Some (st q S section sub key v bl)) bs ≡ Some out)) ⊎ FromItem out S section sub (b ∷ bs)
   back_item q b bs p S section sub key v bl back e = at (is_end b) (is_blank b) (is_letter b) (eqb (length section) 0) refl refl refl refl e
     where
@@ -106,11 +114,13 @@ module _ (out : List Setting) where
           → ((u ≡ true) × (core (Some (st q S section sub key v bl)) bs ≡ Some out)) ⊎ FromItem out S section sub (b ∷ bs)
       at true u w x t-is u-is w-is x-is e = inr (item_end S section sub (b ∷ bs) (back_end out b bs S section sub key v bl back t-is e))
       at false true w x t-is u-is w-is x-is e = inl (refl, e)
-      at false false true false t-is u-is w-is x-is e = inr (item_key b S section sub bs w-is x-is (back place.Key S section sub (to_ascii_lowercase b ∷ []) (codes "true") bl e refl))
+      at false false true false t-is u-is w-is x-is e =
+          inr (item_key b S section sub bs w-is x-is (back place.Key S section sub (to_ascii_lowercase b ∷ []) (codes "true") bl e refl))
       at false false true true t-is u-is w-is x-is e = none out bs e
       at false false false x t-is u-is w-is x-is e = none out bs e
 
-  back_behind_header : (b : ℕ) (bs : List ℕ) (S : List Setting) (section sub key v bl : List ℕ) → Back out bs → core (step (st place.BehindHeader S section sub key v bl) b) bs ≡ Some out → FromBehindHeader out S section sub (b ∷ bs)
+  back_behind_header : (b : ℕ) (bs : List ℕ) (S : List Setting) (section sub key v bl : List ℕ) → Back out bs
+      → core (step (st place.BehindHeader S section sub key v bl) b) bs ≡ Some out → FromBehindHeader out S section sub (b ∷ bs)
   unfolding step
   back_behind_header b bs S section sub key v bl back e =
       elim (back_item place.BehindHeader b bs place.BehindHeader S section sub key v bl back e) [
@@ -127,11 +137,13 @@ module _ (out : List Setting) where
   back_escaped_sub b bs S section sub key v bl back true is e = (b, bs, is, refl, back place.Sub S section (sub ++ b ∷ []) key v bl e)
   back_escaped_sub b bs S section sub key v bl back false is e = none out bs e
 
-  back_sub_escape : (b : ℕ) (bs : List ℕ) (S : List Setting) (section sub key v bl : List ℕ) → Back out bs → core (step (st place.SubEscape S section sub key v bl) b) bs ≡ Some out → FromSubEscape out S section sub (b ∷ bs)
+  back_sub_escape : (b : ℕ) (bs : List ℕ) (S : List Setting) (section sub key v bl : List ℕ) → Back out bs
+      → core (step (st place.SubEscape S section sub key v bl) b) bs ≡ Some out → FromSubEscape out S section sub (b ∷ bs)
   unfolding step
   back_sub_escape b bs S section sub key v bl back e = back_escaped_sub b bs S section sub key v bl back (is_sub_byte b) refl e
 
-  sub_more : (b : ℕ) (S : List Setting) (section sub r : List ℕ) → FromSub out S section (sub ++ b ∷ []) r → is_plain_sub_byte b ≡ true → FromSub out S section sub (b ∷ r)
+  sub_more : (b : ℕ) (S : List Setting) (section sub r : List ℕ) → FromSub out S section (sub ++ b ∷ []) r → is_plain_sub_byte b ≡ true
+      → FromSub out S section sub (b ∷ r)
   sub_more b S section sub r k plain = (
     Plain b ∷ k.0,
     k.1,
@@ -151,9 +163,11 @@ module _ (out : List Setting) where
       )
 
   sub_ends : (b : ℕ) (S : List Setting) (section sub r : List ℕ) → b ≡ 34 → FromBehindSub out S section sub r → FromSub out S section sub (b ∷ r)
-  sub_ends b S section sub r e k = ([], k.0, refl, cons out b 34 r e ∙ behind_byte out 34 k.1, subst (λ (y : List ℕ). FromBehindHeader out S section y k.0) (sym (append-nil sub)) k.2)
+  sub_ends b S section sub r e k =
+      ([], k.0, refl, cons out b 34 r e ∙ behind_byte out 34 k.1, subst (λ (y : List ℕ). FromBehindHeader out S section y k.0) (sym (append-nil sub)) k.2)
 
-  back_sub : (b : ℕ) (bs : List ℕ) (S : List Setting) (section sub key v bl : List ℕ) → Back out bs → core (step (st place.Sub S section sub key v bl) b) bs ≡ Some out → FromSub out S section sub (b ∷ bs)
+  back_sub : (b : ℕ) (bs : List ℕ) (S : List Setting) (section sub key v bl : List ℕ) → Back out bs
+      → core (step (st place.Sub S section sub key v bl) b) bs ≡ Some out → FromSub out S section sub (b ∷ bs)
   unfolding step
   back_sub b bs S section sub key v bl back e = at (eqb b 34) (eqb b 92) (is_sub_byte b) refl refl refl e
     where
@@ -165,22 +179,27 @@ module _ (out : List Setting) where
           → FromSub out S section sub (b ∷ bs)
       at true u w t-is u-is w-is e = sub_ends b S section sub bs (eqb-true b 34 t-is) (back place.BehindSub S section sub key v bl e)
       at false true w t-is u-is w-is e = sub_escaped b S section sub bs (eqb-true b 92 u-is) (back place.SubEscape S section sub key v bl e)
-      at false false true t-is u-is w-is e = sub_more b S section sub bs (back place.Sub S section (sub ++ b ∷ []) key v bl e) (rw (w-is, t-is, u-is) refl)
+      at false false true t-is u-is w-is e =
+          sub_more b S section sub bs (back place.Sub S section (sub ++ b ∷ []) key v bl e) (rw (w-is, t-is, u-is) refl)
       at false false false t-is u-is w-is e = none out bs e
 
-  back_behind_sub : (b : ℕ) (bs : List ℕ) (S : List Setting) (section sub key v bl : List ℕ) → Back out bs → core (step (st place.BehindSub S section sub key v bl) b) bs ≡ Some out → FromBehindSub out S section sub (b ∷ bs)
+  back_behind_sub : (b : ℕ) (bs : List ℕ) (S : List Setting) (section sub key v bl : List ℕ) → Back out bs
+      → core (step (st place.BehindSub S section sub key v bl) b) bs ≡ Some out → FromBehindSub out S section sub (b ∷ bs)
   unfolding step
   back_behind_sub b bs S section sub key v bl back e = at (eqb b 93) refl e
     where
-      at : (t : Bool) → eqb b 93 ≡ t → core (cond t (Some (st place.BehindHeader S section sub key v bl)) None) bs ≡ Some out → FromBehindSub out S section sub (b ∷ bs)
+      at : (t : Bool) → eqb b 93 ≡ t → core (cond t (Some (st place.BehindHeader S section sub key v bl)) None) bs ≡ Some out
+          → FromBehindSub out S section sub (b ∷ bs)
       at true is e = (bs, cons out b 93 bs (eqb-true b 93 is), back place.BehindHeader S section sub key v bl e)
       at false is e = none out bs e
 
-  back_behind_section : (b : ℕ) (bs : List ℕ) (S : List Setting) (section sub key v bl : List ℕ) → Back out bs → core (step (st place.BehindSection S section sub key v bl) b) bs ≡ Some out → FromBehindSection out S section sub (b ∷ bs)
+  back_behind_section : (b : ℕ) (bs : List ℕ) (S : List Setting) (section sub key v bl : List ℕ) → Back out bs
+      → core (step (st place.BehindSection S section sub key v bl) b) bs ≡ Some out → FromBehindSection out S section sub (b ∷ bs)
   unfolding step
   back_behind_section b bs S section sub key v bl back e = at (is_blank b) (eqb b 34) refl refl e
     where
-      at : (t u : Bool) → is_blank b ≡ t → eqb b 34 ≡ u → core (cond t (Some (st place.BehindSection S section sub key v bl)) (cond u (Some (st place.Sub S section sub key v bl)) None)) bs ≡ Some out
+      at : (t u : Bool) → is_blank b ≡ t → eqb b 34 ≡ u
+          → core (cond t (Some (st place.BehindSection S section sub key v bl)) (cond u (Some (st place.Sub S section sub key v bl)) None)) bs ≡ Some out
           → FromBehindSection out S section sub (b ∷ bs)
       at true u t-is u-is e =
           let k = back place.BehindSection S section sub key v bl e in
@@ -188,13 +207,15 @@ module _ (out : List Setting) where
       at false true t-is u-is e = ([], bs, refl, cons out b 34 bs (eqb-true b 34 u-is), back place.Sub S section sub key v bl e)
       at false false t-is u-is e = none out bs e
 
-  some_section : (S : List Setting) (section sub r : List ℕ) (s : Option text.Sub) (behind : List ℕ) → eqb (length section) 0 ≡ false → text.is_sub s ≡ true → r ≡ then_sub s (93 ∷ behind)
+  some_section : (S : List Setting) (section sub r : List ℕ) (s : Option text.Sub) (behind : List ℕ) → eqb (length section) 0 ≡ false
+      → text.is_sub s ≡ true → r ≡ then_sub s (93 ∷ behind)
       → FromBehindHeader out S section (sub ++ sub_of s) behind → FromSection out S section sub r
   some_section S section sub r s behind some is e k =
       let same : section ++ lower [] ≡ section = append-nil section in
       ([], s, behind, refl, ap (λ (x : List ℕ). eqb (length x) 0) same ∙ some, is, e, subst (λ (x : List ℕ). FromBehindHeader out S x (sub ++ sub_of s) behind) (sym same) k)
 
-  section_blank : (b : ℕ) (S : List Setting) (section sub r : List ℕ) → is_blank b ≡ true → eqb (length section) 0 ≡ false → FromBehindSection out S section sub r → FromSection out S section sub (b ∷ r)
+  section_blank : (b : ℕ) (S : List Setting) (section sub r : List ℕ) → is_blank b ≡ true → eqb (length section) 0 ≡ false
+      → FromBehindSection out S section sub r → FromSection out S section sub (b ∷ r)
   section_blank b S section sub r blank some h =
       let k = h.4 in
       some_section S section sub (b ∷ r) (Some (record { blanks = b ∷ h.0; parts = k.0 })) k.1 some
@@ -202,7 +223,8 @@ module _ (out : List Setting) where
       (both (not (eqb (length (b ∷ h.0)) 0)) (is_blank b && list_all is_blank h.0) (ap not (some_length b h.0)) (both (is_blank b) (list_all is_blank h.0) blank h.2)) k.2)
       (behind_byte out b (h.3 ∙ ap (λ (t : List ℕ). h.0 ++ (34 ∷ t)) k.3)) k.4
 
-  back_section : (b : ℕ) (bs : List ℕ) (S : List Setting) (section sub key v bl : List ℕ) → Back out bs → core (step (st place.Section S section sub key v bl) b) bs ≡ Some out → FromSection out S section sub (b ∷ bs)
+  back_section : (b : ℕ) (bs : List ℕ) (S : List Setting) (section sub key v bl : List ℕ) → Back out bs
+      → core (step (st place.Section S section sub key v bl) b) bs ≡ Some out → FromSection out S section sub (b ∷ bs)
   unfolding step
   back_section b bs S section sub key v bl back e = at (is_section_byte b) (eqb (length section) 0) (eqb b 93) (is_blank b) refl refl refl refl e
     where
@@ -274,9 +296,11 @@ module _ (out : List Setting) where
         ls.3 ∙ append_assoc S (assigned (section_behind section k.1) (sub_behind sub k.1) k.2) (settings_of (section_behind section k.1) (sub_behind sub k.1) ls.0),
       )
 
-  back_at : (b : ℕ) (bs : List ℕ) (p : Place) (S : List Setting) (section sub key v bl : List ℕ) → Back out bs → core (step (st p S section sub key v bl) b) bs ≡ Some out → From out p S section sub key v bl (b ∷ bs)
+  back_at : (b : ℕ) (bs : List ℕ) (p : Place) (S : List Setting) (section sub key v bl : List ℕ) → Back out bs
+      → core (step (st p S section sub key v bl) b) bs ≡ Some out → From out p S section sub key v bl (b ∷ bs)
   unfolding step
-  back_at b bs place.Start S section sub key v bl back e = line_start S section sub (b ∷ bs) (back_front b bs place.Start S section sub key v bl back (eqb b 91) refl e)
+  back_at b bs place.Start S section sub key v bl back e =
+      line_start S section sub (b ∷ bs) (back_front b bs place.Start S section sub key v bl back (eqb b 91) refl e)
   back_at b bs place.Indented S section sub key v bl back e = back_front b bs place.Indented S section sub key v bl back (eqb b 91) refl e
   back_at b bs place.Section S section sub key v bl back e = back_section b bs S section sub key v bl back e
   back_at b bs place.BehindSection S section sub key v bl back e = back_behind_section b bs S section sub key v bl back e
@@ -287,9 +311,11 @@ module _ (out : List Setting) where
   back_at b bs place.Key S section sub key v bl back e = back_key b bs S section sub key v bl back e
   back_at b bs place.BehindKey S section sub key v bl back e = back_behind_key b bs S section sub key v bl back e
   back_at b bs place.Value S section sub key v bl back e = back_value out b bs S section sub key v bl back e
-  back_at b bs place.ValueEscape S section sub key v bl back e = back_escape out false b bs S section sub key v bl back (eqb b 10) refl (escaped b) refl e
+  back_at b bs place.ValueEscape S section sub key v bl back e =
+      back_escape out false b bs S section sub key v bl back (eqb b 10) refl (escaped b) refl e
   back_at b bs place.Quoted S section sub key v bl back e = back_quotes out b bs S section sub key v bl back e
-  back_at b bs place.QuotedEscape S section sub key v bl back e = back_escape out true b bs S section sub key v bl back (eqb b 10) refl (escaped b) refl e
+  back_at b bs place.QuotedEscape S section sub key v bl back e =
+      back_escape out true b bs S section sub key v bl back (eqb b 10) refl (escaped b) refl e
   back_at b bs place.Comment S section sub key v bl back e = back_comment out b bs S section sub key v bl back e
 
   back_none : Back out []

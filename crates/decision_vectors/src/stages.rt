@@ -1,8 +1,8 @@
 //! Cases of `stage_index`. An index is written as its hex digits.
 
-use cases::{Answer, Case, CaseFault, index_of, put_map};
+use cases::{Answer, Case, CaseFault, index_of, map_of, put_map};
 use index_file::IndexEntry;
-use stage_index::{StageFault, set_stages, to_map, unmerged};
+use stage_index::{StageFault, from_map, set_stages, staged_path, to_map, tracked, unmerged};
 
 /// INDEX: its unmerged paths.
 pub fn unmerged_paths(case: &mut Case<'_>) -> Result<(), CaseFault> {
@@ -56,4 +56,32 @@ pub fn with_stages(case: &mut Case<'_>) -> Result<(), CaseFault> {
         [merged, base, ours, theirs],
     )?;
     put_entries(&mut case.out, &entries)
+}
+
+/// Entries, each a path, a mode and an id: the index of their map.
+pub fn index_of_map(case: &mut Case<'_>) -> Result<(), CaseFault> {
+    let count = case.fields.len() / 3;
+    let map = map_of(case, count)?;
+    let entries = from_map(case.alloc, &map)?;
+    put_entries(&mut case.out, &entries)
+}
+
+/// INDEX, and the entries of HEAD's map: the least path at which they differ, or `none`.
+pub fn staged(case: &mut Case<'_>) -> Result<(), CaseFault> {
+    let entries = index_of(case)?;
+    let count = case.fields.len() / 3;
+    let head = map_of(case, count)?;
+    match staged_path(&entries, &head) {
+        Some(path) => case.out.bytes(path.bytes())?,
+        None => case.out.word(b"none")?,
+    }
+    Ok(())
+}
+
+/// INDEX PATH: whether the index tracks the path.
+pub fn is_tracked(case: &mut Case<'_>) -> Result<(), CaseFault> {
+    let entries = index_of(case)?;
+    let path = case.fields.bytes()?;
+    case.out.yes_or_no(tracked(&entries, path).is_some())?;
+    Ok(())
 }

@@ -22,6 +22,9 @@ fn of_stages(verb: &str, case: &mut Case<'_>) -> Result<bool, CaseFault> {
     match verb {
         "unmerged" => stages::unmerged_paths(case)?,
         "to-map" => stages::map_of_index(case)?,
+        "index-of-map" => stages::index_of_map(case)?,
+        "staged-path" => stages::staged(case)?,
+        "tracked" => stages::is_tracked(case)?,
         "set-stages" => stages::with_stages(case)?,
         _ => return Ok(false),
     }

@@ -38,25 +38,30 @@ module _ {P : Type 0} (told : Type 0) (ran : P → Noted → P → Type 0) (numb
 
   -- what a child that was handed in over the job's files comes to
   module _ (child : Job) (mid : Seen) (is : child ≡ exec_of job.command) (over : told → mid.content ≡ with_files number job old.content) where
-    hands : (result : Result Exit ChildError) (q : P) (new : Seen) → ran p (noted child mid result new) q → HandsIn told ran number job p old.content (noted child mid result new) q
+    hands : (result : Result Exit ChildError) (q : P) (new : Seen) → ran p (noted child mid result new) q
+        → HandsIn told ran number job p old.content (noted child mid result new) q
     hands result q new h = record { ran_is = h; job_is = is; over_is = over }
 
-    pub child_fails : (e : ChildError) → e ≡ error.Failed → (q : P) (new : Seen) → Runs told ran child p mid (Err e) q new → DrivesBy (λ (w : World). w) told ran number job p old (Err Child) q new
+    pub child_fails : (e : ChildError) → e ≡ error.Failed → (q : P) (new : Seen) → Runs told ran child p mid (Err e) q new
+        → DrivesBy (λ (w : World). w) told ran number job p old (Err Child) q new
     child_fails e same q new h =
         let run : Runs told ran child p mid (Err error.Failed) q new = subst (λ (x : ChildError). Runs told ran child p mid (Err x) q new) same h in
         (noted child mid (Err error.Failed) new, hands (Err error.Failed) q new run, refl, λ t. refl)
 
-    wants_memory : (q : P) (new : Seen) → Runs told ran child p mid (Err error.Memory) q new → DrivesBy (λ (w : World). w) told ran number job p old (Err Memory) q new
+    wants_memory : (q : P) (new : Seen) → Runs told ran child p mid (Err error.Memory) q new
+        → DrivesBy (λ (w : World). w) told ran number job p old (Err Memory) q new
     wants_memory q new (inl none) = inl none.0
     wants_memory q new (inr some) = inr (noted child mid (Err error.Memory) new, hands (Err error.Memory) q new some)
 
-    pub child_wants_memory : (e : ChildError) → e ≡ error.Memory → (q : P) (new : Seen) → Runs told ran child p mid (Err e) q new → DrivesBy (λ (w : World). w) told ran number job p old (Err Memory) q new
+    pub child_wants_memory : (e : ChildError) → e ≡ error.Memory → (q : P) (new : Seen) → Runs told ran child p mid (Err e) q new
+        → DrivesBy (λ (w : World). w) told ran number job p old (Err Memory) q new
     child_wants_memory e same q new h = wants_memory q new (subst (λ (x : ChildError). Runs told ran child p mid (Err x) q new) same h)
 
     pub child_ends : (exit : Exit) (q : P) (between new : Seen) (result : Result DriverEnd PoolFault) → Runs told ran child p mid (Ok exit) q between
         → (told → IfOk result (λ end. end ≡ end_of exit (map.get between.content (file_of number Ours)))) → (told → new.content ≡ between.content) → (IsErrOf result Child → ⊥)
         → DrivesBy (λ (w : World). w) told ran number job p old result q new
-    child_ends exit q between new (Ok end) h end_is same not_child = (noted child mid (Ok exit) between, hands (Ok exit) q between h, refl, end_is, same)
+    child_ends exit q between new (Ok end) h end_is same not_child =
+        (noted child mid (Ok exit) between, hands (Ok exit) q between h, refl, end_is, same)
     child_ends exit q between new (Err Child) h end_is same not_child = absurd (not_child refl)
     child_ends exit q between new (Err Fault) h end_is same not_child = inr (noted child mid (Ok exit) between, hands (Ok exit) q between h)
     child_ends exit q between new (Err Blocked) h end_is same not_child = inr (noted child mid (Ok exit) between, hands (Ok exit) q between h)

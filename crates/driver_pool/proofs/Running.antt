@@ -32,7 +32,8 @@ pub record Whole {P : Type 0} (told : Type 0) (ran : P → Noted → P → Type 
   pub left : told → left_behind 1 w all ≡ left_behind number v notes
 
 pub record IsSoFar {P : Type 0} (told : Type 0) (ran : P → Noted → P → Type 0) (jobs : List DriverJob) (p : P) (w : World) (ends : List DriverEnd) (number : ℕ) (rest : List DriverJob) (q : P) (v : World) : Type 0 where
-  pub goes_on : (notes : List Noted) (r : P) → AreNoted ran q notes r → AreHandedIn told number rest v notes → Whole told ran jobs p w ends number rest v notes r
+  pub goes_on : (notes : List Noted) (r : P) → AreNoted ran q notes r → AreHandedIn told number rest v notes
+      → Whole told ran jobs p w ends number rest v notes r
 
 -- a list is its first job and what follows it
 pub first_job : (whole : List DriverJob) (job : DriverJob) → 0 < length whole → job ≡ get_or whole 0 job → whole ≡ job ∷ drop 1 whole
@@ -61,7 +62,8 @@ module _ {P : Type 0} (told : Type 0) (ran : P → Noted → P → Type 0) (jobs
   }
 
   -- over another world, where it is not told
-  over_same : (number : ℕ) (rest : List DriverJob) (v v' : World) (notes : List Noted) → (told → v' ≡ v) → AreHandedIn told number rest v' notes → AreHandedIn told number rest v notes
+  over_same : (number : ℕ) (rest : List DriverJob) (v v' : World) (notes : List Noted) → (told → v' ≡ v) → AreHandedIn told number rest v' notes
+      → AreHandedIn told number rest v notes
   over_same number rest v v' [] same h = tt
   over_same number [] v v' (n ∷ notes) same h = absurd h
   over_same number (job ∷ rest) v v' (n ∷ notes) same h = (h.0, (λ t. h.1 t ∙ ap (with_files number job) (same t)), h.2)
@@ -87,7 +89,9 @@ module _ {P : Type 0} (told : Type 0) (ran : P → Noted → P → Type 0) (jobs
             count = let c = whole.count in omega arith;
             well = λ h. whole.well (well, h);
             last = λ h. whole.last (failed_on n notes well h);
-            ends_are = λ t. whole.ends_are t ∙ ap (λ (e : DriverEnd). ends ++ e ∷ ends_of (number + 1) notes) (sym (end_is t)) ∙ sym (append_assoc ends (end ∷ []) (ends_of (number + 1) notes));
+            ends_are =
+                λ t. whole.ends_are t ∙ ap (λ (e : DriverEnd). ends ++ e ∷ ends_of (number + 1) notes) (sym (end_is t))
+                ∙ sym (append_assoc ends (end ∷ []) (ends_of (number + 1) notes));
             left = λ t. whole.left t ∙ sym (left_same (number + 1) (without_files number n.left) v' notes (left_is t));
           };
     }
@@ -100,7 +104,8 @@ module _ {P : Type 0} (told : Type 0) (ran : P → Noted → P → Type 0) (jobs
     none_here : Whole told ran jobs p w ends number (job ∷ rest) v [] q
     none_here = so_far.goes_on [] q refl tt
 
-    pub stops_at_child : (n : Noted) (q' : P) (v' : World) → HandsIn told ran number job q v n q' → n.failed ≡ true → (told → v' ≡ without_files number n.left)
+    pub stops_at_child : (n : Noted) (q' : P) (v' : World) → HandsIn told ran number job q v n q' → n.failed ≡ true
+        → (told → v' ≡ without_files number n.left)
         → RunsDrivers told ran jobs p w (Err Child) q' v'
     stops_at_child n q' v' hands failed left_is =
         let whole = ends_here n q' hands in
@@ -119,7 +124,8 @@ module _ {P : Type 0} (told : Type 0) (ran : P → Noted → P → Type 0) (jobs
     comes_other Blocked notes v' h = tt
     comes_other Memory notes v' h = tt
 
-    pub stops : (fault : PoolFault) (q' : P) (v' : World) → IsOther fault → (q' ≡ q) ⊎ ((n : Noted) × HandsIn told ran number job q v n q') → RunsDrivers told ran jobs p w (Err fault) q' v'
+    pub stops : (fault : PoolFault) (q' : P) (v' : World) → IsOther fault → (q' ≡ q) ⊎ ((n : Noted) × HandsIn told ran number job q v n q')
+        → RunsDrivers told ran jobs p w (Err fault) q' v'
     stops fault q' v' other (inl same) =
         let whole = none_here in
         record { notes = whole.all; noted = subst (λ (r : P). AreNoted ran p whole.all r) (sym same) whole.noted; handed = whole.handed; comes = comes_other fault whole.all v' other }
@@ -131,24 +137,30 @@ module _ {P : Type 0} (told : Type 0) (ran : P → Noted → P → Type 0) (jobs
     from : (job : DriverJob) (rest : List DriverJob) → whole ≡ job ∷ rest → IsSoFar told ran jobs p w ends number (job ∷ rest) q mid.content
     from job rest is = subst (λ (left : List DriverJob). IsSoFar told ran jobs p w ends number left q mid.content) is so_far
 
-    pub goes_on_behind : (job : DriverJob) (rest : List DriverJob) (end : DriverEnd) (q' : P) (new : Seen) → whole ≡ job ∷ rest → IsDriven told ran number job q mid (Ok end) q' new
+    pub goes_on_behind : (job : DriverJob) (rest : List DriverJob) (end : DriverEnd) (q' : P) (new : Seen) → whole ≡ job ∷ rest
+        → IsDriven told ran number job q mid (Ok end) q' new
         → IsSoFar told ran jobs p w (ends ++ end ∷ []) (number + 1) rest q' new.content
-    goes_on_behind job rest end q' new is d = steps ends number job rest q mid.content (from job rest is) d.by.0 q' new.content end d.by.1 d.by.2 d.by.3 d.by.4
+    goes_on_behind job rest end q' new is d =
+        steps ends number job rest q mid.content (from job rest is) d.by.0 q' new.content end d.by.1 d.by.2 d.by.3 d.by.4
 
     -- where memory runs out for the list of ends
-    pub ends_full : (job : DriverJob) (rest : List DriverJob) (end : DriverEnd) (q' : P) (new : Seen) → whole ≡ job ∷ rest → IsDriven told ran number job q mid (Ok end) q' new
+    pub ends_full : (job : DriverJob) (rest : List DriverJob) (end : DriverEnd) (q' : P) (new : Seen) → whole ≡ job ∷ rest
+        → IsDriven told ran number job q mid (Ok end) q' new
         → RunsDrivers told ran jobs p w (Err Memory) q' new.content
     ends_full job rest end q' new is d = stops ends number job rest q mid.content (from job rest is) Memory q' new.content tt (inr (d.by.0, d.by.1))
 
-    pub ends_at : (job : DriverJob) (rest : List DriverJob) (fault : PoolFault) (q' : P) (new : Seen) → whole ≡ job ∷ rest → IsDriven told ran number job q mid (Err fault) q' new
+    pub ends_at : (job : DriverJob) (rest : List DriverJob) (fault : PoolFault) (q' : P) (new : Seen) → whole ≡ job ∷ rest
+        → IsDriven told ran number job q mid (Err fault) q' new
         → RunsDrivers told ran jobs p w (Err fault) q' new.content
-    ends_at job rest Child q' new is d = stops_at_child ends number job rest q mid.content (from job rest is) d.by.0 q' new.content d.by.1 d.by.2 d.by.3
+    ends_at job rest Child q' new is d =
+        stops_at_child ends number job rest q mid.content (from job rest is) d.by.0 q' new.content d.by.1 d.by.2 d.by.3
     ends_at job rest Fault q' new is d = stops ends number job rest q mid.content (from job rest is) Fault q' new.content tt d.by
     ends_at job rest Blocked q' new is d = stops ends number job rest q mid.content (from job rest is) Blocked q' new.content tt d.by
     ends_at job rest Memory q' new is d = stops ends number job rest q mid.content (from job rest is) Memory q' new.content tt d.by
 
   -- all have ended
-  pub ends_well : (ends : Vec DriverEnd) (number : ℕ) (whole : List DriverJob) (q : P) (v : World) → length whole ≡ 0 → IsSoFar told ran jobs p w ends.items number whole q v → RunsDrivers told ran jobs p w (Ok ends) q v
+  pub ends_well : (ends : Vec DriverEnd) (number : ℕ) (whole : List DriverJob) (q : P) (v : World) → length whole ≡ 0
+      → IsSoFar told ran jobs p w ends.items number whole q v → RunsDrivers told ran jobs p w (Ok ends) q v
   ends_well ends number [] q v none so_far =
       let whole = so_far.goes_on [] q refl tt in
       record {

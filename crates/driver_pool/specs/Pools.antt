@@ -76,7 +76,8 @@ pub record HandsIn {P : Type 0} (told : Type 0) (ran : P → Noted → P → Typ
   pub over_is : told → n.over ≡ with_files number job found
 
 -- What is seen of one driver. `after` is what becomes of the world that its child leaves.
-abbrev pub DrivesBy : {P : Type 0} → (World → World) → Type 0 → (P → Noted → P → Type 0) → ℕ → DriverJob → P → Seen → Result DriverEnd PoolFault → P → Seen → Type 0
+abbrev pub DrivesBy : {P : Type 0} → (World → World) → Type 0 → (P → Noted → P → Type 0) → ℕ → DriverJob → P → Seen → Result DriverEnd PoolFault → P
+    → Seen → Type 0
 DrivesBy after told ran number job p old (Ok end) q new =
     (n : Noted) × HandsIn told ran number job p old.content n q
     × (n.failed ≡ false) × (told → end ≡ end_of n.exit (map.get n.left (file_of number Ours))) × (told → new.content ≡ after n.left)

@@ -23,7 +23,8 @@ guard true x y e = (refl, cc)
 guard false x y e = absurd cc
 
 -- a front of digits is one, and so is its last byte
-more_digits : (front back : List ℕ) (b : ℕ) → list_all is_ascii_digit (front ++ b ∷ back) ≡ true → (list_all is_ascii_digit (front ++ b ∷ []) ≡ true) × (is_ascii_digit b ≡ true)
+more_digits : (front back : List ℕ) (b : ℕ) → list_all is_ascii_digit (front ++ b ∷ back) ≡ true
+    → (list_all is_ascii_digit (front ++ b ∷ []) ≡ true) × (is_ascii_digit b ≡ true)
 more_digits [] back b e =
     let k = and_true (is_ascii_digit b) (list_all is_ascii_digit back) e in
     let d = k.0 in
@@ -34,7 +35,8 @@ more_digits (c ∷ front) back b e =
     let d = k.0 in
     (rw d m.0, m.1)
 
-pub decimal_front : (front back : List ℕ) (b : ℕ) → is_decimal_front (front ++ b ∷ back) ≡ true → (is_decimal_front (front ++ b ∷ []) ≡ true) × (is_ascii_digit b ≡ true)
+pub decimal_front : (front back : List ℕ) (b : ℕ) → is_decimal_front (front ++ b ∷ back) ≡ true
+    → (is_decimal_front (front ++ b ∷ []) ≡ true) × (is_ascii_digit b ≡ true)
 decimal_front [] back b e =
     let k = and_true (is_ascii_digit b) (cond (eqb b 48) (is_none back) (list_all is_ascii_digit back)) e in
     let d = k.0 in
@@ -53,7 +55,8 @@ decimal_front (c ∷ front) back b e =
     not_none [] e = absurd cc
     not_none (x ∷ xs) e = absurd cc
 
-    at : (t : Bool) → cond t (is_none (front ++ b ∷ back)) (list_all is_ascii_digit (front ++ b ∷ back)) ≡ true → (cond t (is_none (front ++ b ∷ [])) (list_all is_ascii_digit (front ++ b ∷ [])) ≡ true) × (is_ascii_digit b ≡ true)
+    at : (t : Bool) → cond t (is_none (front ++ b ∷ back)) (list_all is_ascii_digit (front ++ b ∷ back)) ≡ true
+        → (cond t (is_none (front ++ b ∷ [])) (list_all is_ascii_digit (front ++ b ∷ [])) ≡ true) × (is_ascii_digit b ≡ true)
     at true e = absurd (not_none front e)
     at false e = more_digits front back b e
 
@@ -120,7 +123,8 @@ digits_all (c ∷ ds) h =
     let high = le-leb c 57 range.1 in
     rw (low, high) (digits_all ds h.1)
 
-written : (ds : List ℕ) (n : ℕ) → 0 < length ds → list_all is_ascii_digit ds ≡ true → 48 < get_or ds 0 0 → digits_value 10 ds ≡ n → decimal_value ds ≡ Some n
+written : (ds : List ℕ) (n : ℕ) → 0 < length ds → list_all is_ascii_digit ds ≡ true → 48 < get_or ds 0 0 → digits_value 10 ds ≡ n
+    → decimal_value ds ≡ Some n
 written [] n some all high value = absurd (omega arith)
 written (b ∷ bs) n some all high value =
     let k = and_true (is_ascii_digit b) (list_all is_ascii_digit bs) all in

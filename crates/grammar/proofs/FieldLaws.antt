@@ -20,7 +20,8 @@ unfolding zeros
 bytes-zeros zero = tt
 bytes-zeros (suc n) = (omega arith, bytes-zeros n)
 
-front_takes : (n : ℕ) (bytes x rest : List ℕ) (t : Bool) → ltb (length bytes) n ≡ t → cond {A = Result (List ℕ × List ℕ) ℕ} t (Err 0) (Ok (take n bytes, drop n bytes)) ≡ Ok (x, rest)
+front_takes : (n : ℕ) (bytes x rest : List ℕ) (t : Bool) → ltb (length bytes) n ≡ t
+    → cond {A = Result (List ℕ × List ℕ) ℕ} t (Err 0) (Ok (take n bytes, drop n bytes)) ≡ Ok (x, rest)
     → (text : List ℕ) × Front n x text × (bytes ≡ text ++ rest)
 front_takes n bytes x rest true is e = absurd cc
 front_takes n bytes x rest false is e =
@@ -29,7 +30,8 @@ front_takes n bytes x rest false is e =
     let len : length (take n bytes) ≡ n = omega (arith, length-take n bytes) in
     subst (λ (p : List ℕ × List ℕ). (text : List ℕ) × Front n p.0 text × (bytes ≡ text ++ p.1)) same (take n bytes, (len, refl), sym (take-append-drop n bytes))
 
-front_stops : (n : ℕ) (bytes : List ℕ) (left : ℕ) (t : Bool) → ltb (length bytes) n ≡ t → cond {A = Result (List ℕ × List ℕ) ℕ} t (Err 0) (Ok (take n bytes, drop n bytes)) ≡ Err left → Stops (Front n) bytes left
+front_stops : (n : ℕ) (bytes : List ℕ) (left : ℕ) (t : Bool) → ltb (length bytes) n ≡ t
+    → cond {A = Result (List ℕ × List ℕ) ℕ} t (Err 0) (Ok (take n bytes, drop n bytes)) ≡ Err left → Stops (Front n) bytes left
 front_stops n bytes left true is e =
     let short = ltb-true _ _ is in
     let k = n - length bytes in
@@ -60,7 +62,8 @@ literal_takes [] bytes x rest e =
 literal_takes (c ∷ w) [] x rest e = absurd cc
 literal_takes (c ∷ w) (b ∷ bytes) x rest e = at (literal_takes w bytes x rest) (eqb b c) refl e
   where
-    at : (literal_at w bytes ≡ Ok (x, rest) → bytes ≡ w ++ rest) → (t : Bool) → eqb b c ≡ t → cond t (literal_at w bytes) (Err (suc (length bytes))) ≡ Ok (x, rest) → b ∷ bytes ≡ c ∷ (w ++ rest)
+    at : (literal_at w bytes ≡ Ok (x, rest) → bytes ≡ w ++ rest) → (t : Bool) → eqb b c ≡ t
+        → cond t (literal_at w bytes) (Err (suc (length bytes))) ≡ Ok (x, rest) → b ∷ bytes ≡ c ∷ (w ++ rest)
     at later true is e =
         let same = eqb-true b c is in
         let k = later e in
@@ -82,7 +85,8 @@ literal_stops (c ∷ w) (b ∷ bytes) left fits e = at (literal_stops w bytes le
     off_behind front [] off = tt
     off_behind front (d ∷ back) off = λ x more g. off x more (let k = g in cc)
 
-    at : (literal_at w bytes ≡ Err left → Stops (Literal w) bytes left) → (t : Bool) → eqb b c ≡ t → cond t (literal_at w bytes) (Err (suc (length bytes))) ≡ Err left → Stops (Literal (c ∷ w)) (b ∷ bytes) left
+    at : (literal_at w bytes ≡ Err left → Stops (Literal w) bytes left) → (t : Bool) → eqb b c ≡ t
+        → cond t (literal_at w bytes) (Err (suc (length bytes))) ≡ Err left → Stops (Literal (c ∷ w)) (b ∷ bytes) left
     at later true is e =
         let same = eqb-true b c is in
         let k = later e in
@@ -136,7 +140,8 @@ end_reads = record {
 
     stops : (bytes : List ℕ) (left : ℕ) → end_at bytes ≡ Err left → Stops End bytes left
     stops [] left e = absurd cc
-    stops (b ∷ bytes) left e = record { front = []; back = b ∷ bytes; parts = refl; left_is = cc; on = (tt, [], tt, refl); off = λ x more g. absurd (let k = g in cc) }
+    stops (b ∷ bytes) left e =
+        record { front = []; back = b ∷ bytes; parts = refl; left_is = cc; on = (tt, [], tt, refl); off = λ x more g. absurd (let k = g in cc) }
 
 -- ---- another grammar of the same texts
 
@@ -160,7 +165,8 @@ pub reads_same : {X : Type 0} (spells others : X → List ℕ → Type 0) (read 
 reads_same spells others read to from reads = record {
   takes = λ bytes x rest e. let k = reads.takes bytes x rest e in (k.0, to x k.0 k.1, k.2);
   again = λ x text rest g. reads.again x text rest (from x text g);
-  stops = λ bytes left e. stops_same spells others bytes left (λ x text g. (x, to x text g)) (λ x text g. (x, from x text g)) (reads.stops bytes left e);
+  stops =
+      λ bytes left e. stops_same spells others bytes left (λ x text g. (x, to x text g)) (λ x text g. (x, from x text g)) (reads.stops bytes left e);
 }
 
 pub reads_all_same : {X : Type 0} (spells others : X → List ℕ → Type 0) (read : List ℕ → Result X ℕ)
@@ -168,5 +174,6 @@ pub reads_all_same : {X : Type 0} (spells others : X → List ℕ → Type 0) (r
 reads_all_same spells others read to from reads = record {
   takes = λ bytes x e. to x bytes (reads.takes bytes x e);
   again = λ x text g. reads.again x text (from x text g);
-  stops = λ bytes left e. stops_same spells others bytes left (λ x text g. (x, to x text g)) (λ x text g. (x, from x text g)) (reads.stops bytes left e);
+  stops =
+      λ bytes left e. stops_same spells others bytes left (λ x text g. (x, to x text g)) (λ x text g. (x, from x text g)) (reads.stops bytes left e);
 }

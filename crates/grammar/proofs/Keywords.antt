@@ -28,7 +28,8 @@ plain_bytes stop [] [] h = tt
 plain_bytes stop [] (b ∷ rest) h = (h.0, plain_bytes stop [] rest h.2)
 plain_bytes stop (a ∷ front) rest h = plain_bytes stop front rest h.2
 
-pub fronts : {K : Type 0} (stop : ℕ) (ks : List (List ℕ × K)) → ArePlain stop ks → (front back : List ℕ) (b : ℕ) (x : K) → value_of ks (front ++ b ∷ back) ≡ Some x
+pub fronts : {K : Type 0} (stop : ℕ) (ks : List (List ℕ × K)) → ArePlain stop ks → (front back : List ℕ) (b : ℕ) (x : K)
+    → value_of ks (front ++ b ∷ back) ≡ Some x
     → (may_of ks (front ++ b ∷ []) ≡ true) × (b ≡ stop → ⊥)
 fronts stop [] plain front back b x v = absurd cc
 fronts {K} stop (k ∷ ks) plain front back b x v =
@@ -37,7 +38,8 @@ fronts {K} stop (k ∷ ks) plain front back b x v =
     at : (value_of ks (front ++ b ∷ back) ≡ Some x → (may_of ks (front ++ b ∷ []) ≡ true) × (b ≡ stop → ⊥))
         → (t : Bool) → is_same k.0 (front ++ b ∷ back) ≡ t → (m : Bool) → is_front (front ++ b ∷ []) k.0 ≡ m → cond t (Some k.1) (value_of ks (front ++ b ∷ back)) ≡ Some x
         → (cond m true (may_of ks (front ++ b ∷ [])) ≡ true) × (b ≡ stop → ⊥)
-    at later true is true m-is v = (refl, plain_at stop front b back (subst (λ (t : List ℕ). IsPlain stop t) (same_true k.0 (front ++ b ∷ back) is) plain.0))
+    at later true is true m-is v =
+        (refl, plain_at stop front b back (subst (λ (t : List ℕ). IsPlain stop t) (same_true k.0 (front ++ b ∷ back) is) plain.0))
     at later true is false m-is v =
         let text : k.0 ≡ (front ++ b ∷ []) ++ back = same_true k.0 (front ++ b ∷ back) is ∙ sym (append_assoc front (b ∷ []) back) in
         let good = ap (is_front (front ++ b ∷ [])) text ∙ front_of (front ++ b ∷ []) back in
@@ -45,7 +47,8 @@ fronts {K} stop (k ∷ ks) plain front back b x v =
     at later false is true m-is v = (refl, (later v).1)
     at later false is false m-is v = later v
 
-pub ends : {K : Type 0} (stop : ℕ) (ks : List (List ℕ × K)) → ArePlain stop ks → (front : List ℕ) → may_of ks front ≡ true → (x : K) × (rest : List ℕ) × AllBytes rest × (value_of ks (front ++ rest) ≡ Some x)
+pub ends : {K : Type 0} (stop : ℕ) (ks : List (List ℕ × K)) → ArePlain stop ks → (front : List ℕ) → may_of ks front ≡ true
+    → (x : K) × (rest : List ℕ) × AllBytes rest × (value_of ks (front ++ rest) ≡ Some x)
 ends stop [] plain front m = absurd cc
 ends {K} stop (k ∷ ks) plain front m = at (ends stop ks plain.1 front) (is_front front k.0) refl m
   where
@@ -86,15 +89,18 @@ are_plain_from stop (k ∷ ks) e =
     let j = and_true (is_plain stop k.0) (are_plain stop ks) e in
     (plain_from stop k.0 j.0, are_plain_from stop ks j.1)
 
-pub keywords : {K : Type 0} (stop : ℕ) (ks : List (List ℕ × K)) → stop < 256 → are_plain stop ks ≡ true → may_of ks [] ≡ true → IsWord (may_of ks) (value_of ks) stop
-keywords stop ks fits plain on = record { stop_fits = fits; starts = on; fronts = fronts stop ks (are_plain_from stop ks plain); ends = ends stop ks (are_plain_from stop ks plain) }
+pub keywords : {K : Type 0} (stop : ℕ) (ks : List (List ℕ × K)) → stop < 256 → are_plain stop ks ≡ true → may_of ks [] ≡ true
+    → IsWord (may_of ks) (value_of ks) stop
+keywords stop ks fits plain on =
+    record { stop_fits = fits; starts = on; fronts = fronts stop ks (are_plain_from stop ks plain); ends = ends stop ks (are_plain_from stop ks plain) }
 
 -- the word of a value
 abbrev pub HaveTexts : {K : Type 0} → (K → List ℕ) → List (List ℕ × K) → Type 0
 HaveTexts text [] = Unit {0}
 HaveTexts text (k ∷ ks) = (text k.1 ≡ k.0) × HaveTexts text ks
 
-pub value_text : {K : Type 0} (text : K → List ℕ) (ks : List (List ℕ × K)) → HaveTexts text ks → (w : List ℕ) (x : K) → value_of ks w ≡ Some x → w ≡ text x
+pub value_text : {K : Type 0} (text : K → List ℕ) (ks : List (List ℕ × K)) → HaveTexts text ks → (w : List ℕ) (x : K) → value_of ks w ≡ Some x
+    → w ≡ text x
 value_text text [] h w x v = absurd cc
 value_text {K} text (k ∷ ks) h w x v = at (value_text text ks h.1 w x) (is_same k.0 w) refl v
   where
@@ -105,7 +111,8 @@ value_text {K} text (k ∷ ks) h w x v = at (value_text text ks h.1 w x) (is_sam
         sym e ∙ sym h.0 ∙ ap text same
     at later false is v = later v
 
-pub value_none : {K : Type 0} (text : K → List ℕ) (ks : List (List ℕ × K)) → HaveTexts text ks → (w : List ℕ) → ((x : K) → w ≡ text x → ⊥) → value_of ks w ≡ None
+pub value_none : {K : Type 0} (text : K → List ℕ) (ks : List (List ℕ × K)) → HaveTexts text ks → (w : List ℕ) → ((x : K) → w ≡ text x → ⊥)
+    → value_of ks w ≡ None
 value_none {K} text ks h w none = at (value_of ks w) refl
   where
     at : (o : Option K) → value_of ks w ≡ o → value_of ks w ≡ None

@@ -71,7 +71,8 @@ then_stops first second read reads some bytes left bad =
       back = q.back;
       parts = q.parts;
       left_is = q.left_is;
-      on = (more.0, q.on.1 ++ more.1, AllBytes-append q.on.1 more.1 q.on.2 more.2, (q.on.0, q.front ++ q.on.1, more.1, q.on.3, more.3, sym (append_assoc q.front q.on.1 more.1)));
+      on =
+          (more.0, q.on.1 ++ more.1, AllBytes-append q.on.1 more.1 q.on.2 more.2, (q.on.0, q.front ++ q.on.1, more.1, q.on.3, more.3, sym (append_assoc q.front q.on.1 more.1)));
       off = off_first first second read left q.front q.back reads (ap read (sym q.parts) ∙ bad) q.off;
     }
 

@@ -22,7 +22,8 @@ taken (suc k) [] h = tt
 taken (suc k) (x ∷ xs) h = (h.0, taken k xs h.1)
 
 -- lines before the one of a place lie before the place
-before : (bytes : List ℕ) (at n : ℕ) → AllBytes bytes → n ≤ feeds (take at bytes) → (rest : List ℕ) × AllBytes rest × (take at bytes ≡ first_lines n bytes ++ rest)
+before : (bytes : List ℕ) (at n : ℕ) → AllBytes bytes → n ≤ feeds (take at bytes)
+    → (rest : List ℕ) × AllBytes rest × (take at bytes ≡ first_lines n bytes ++ rest)
 before [] zero n fits le = ([], tt, refl)
 before [] (suc at) n fits le = ([], tt, refl)
 before (b ∷ bs) zero zero fits le = ([], tt, refl)
@@ -42,12 +43,14 @@ lines_fit n [] h = tt
 lines_fit zero (x ∷ xs) h = tt
 lines_fit (suc n) (x ∷ xs) h = one (eqb x 10) (lines_fit n xs h.1) (lines_fit (suc n) xs h.1)
   where
-    one : (t : Bool) → AllBytes (first_lines n xs) → AllBytes (first_lines (suc n) xs) → AllBytes (cond t (x ∷ first_lines n xs) (x ∷ first_lines (suc n) xs))
+    one : (t : Bool) → AllBytes (first_lines n xs) → AllBytes (first_lines (suc n) xs)
+        → AllBytes (cond t (x ∷ first_lines n xs) (x ∷ first_lines (suc n) xs))
     one true p q = (h.0, p)
     one false p q = (h.0, q)
 
 -- the line of a place reaches behind it
-reaches : (bytes : List ℕ) (at : ℕ) → AllBytes bytes → at < length bytes → (rest : List ℕ) × AllBytes rest × (first_lines (suc (feeds (take at bytes))) bytes ≡ take (suc at) bytes ++ rest)
+reaches : (bytes : List ℕ) (at : ℕ) → AllBytes bytes → at < length bytes
+    → (rest : List ℕ) × AllBytes rest × (first_lines (suc (feeds (take at bytes))) bytes ≡ take (suc at) bytes ++ rest)
 reaches [] at fits lt = absurd (omega arith)
 reaches (b ∷ bs) zero fits lt = go (eqb b 10)
   where
@@ -67,7 +70,8 @@ lines_front n [] fits = ([], tt, refl)
 lines_front zero (b ∷ bs) fits = (b ∷ bs, fits, refl)
 lines_front (suc n) (b ∷ bs) fits = go (eqb b 10) (lines_front n bs fits.1) (lines_front (suc n) bs fits.1)
   where
-    go : (t : Bool) → ((rest : List ℕ) × AllBytes rest × (bs ≡ first_lines n bs ++ rest)) → ((rest : List ℕ) × AllBytes rest × (bs ≡ first_lines (suc n) bs ++ rest))
+    go : (t : Bool) → ((rest : List ℕ) × AllBytes rest × (bs ≡ first_lines n bs ++ rest))
+        → ((rest : List ℕ) × AllBytes rest × (bs ≡ first_lines (suc n) bs ++ rest))
         → (rest : List ℕ) × AllBytes rest × (b ∷ bs ≡ cond t (b ∷ first_lines n bs) (b ∷ first_lines (suc n) bs) ++ rest)
     go true one two = (one.0, one.1, ap (λ (t : List ℕ). b ∷ t) one.2)
     go false one two = (two.0, two.1, ap (λ (t : List ℕ). b ∷ t) two.2)
@@ -85,7 +89,8 @@ place_within (b ∷ c ∷ bs) (suc at) lt = go (eqb b 10) (place_within (c ∷ b
     go true e = ap suc e
     go false e = e
 
-within_is_bad : {X : Type 0} (spells : X → List ℕ → Type 0) (bytes : List ℕ) (at : ℕ) → AllBytes bytes → at < length bytes → IsFirstBad spells bytes at → IsFirstBadLine spells bytes (suc (feeds (take at bytes)))
+within_is_bad : {X : Type 0} (spells : X → List ℕ → Type 0) (bytes : List ℕ) (at : ℕ) → AllBytes bytes → at < length bytes
+    → IsFirstBad spells bytes at → IsFirstBadLine spells bytes (suc (feeds (take at bytes)))
 within_is_bad spells bytes at fits lt bad = record {
   goes_on = λ n below.
       let k = before bytes at n fits (omega arith) in
@@ -99,7 +104,8 @@ within_is_bad spells bytes at fits lt bad = record {
   no_text = bad.no_text;
 }
 
-end_is_bad : {X : Type 0} (spells : X → List ℕ → Type 0) (bytes : List ℕ) → AllBytes bytes → IsFirstBad spells bytes (length bytes) → IsFirstBadLine spells bytes (line_of_place (length bytes) bytes)
+end_is_bad : {X : Type 0} (spells : X → List ℕ → Type 0) (bytes : List ℕ) → AllBytes bytes → IsFirstBad spells bytes (length bytes)
+    → IsFirstBadLine spells bytes (line_of_place (length bytes) bytes)
 end_is_bad spells bytes fits bad =
     let whole : GoesOn spells bytes = subst (λ (t : List ℕ). GoesOn spells t) (take_all (length bytes) bytes (omega arith)) bad.goes_on in
     record {
@@ -111,7 +117,8 @@ end_is_bad spells bytes fits bad =
     }
 
 -- the line of the first bad byte is the first bad line
-pub first_bad_line : {X : Type 0} (spells : X → List ℕ → Type 0) (bytes : List ℕ) (at : ℕ) → AllBytes bytes → IsFirstBad spells bytes at → IsFirstBadLine spells bytes (line_of_place at bytes)
+pub first_bad_line : {X : Type 0} (spells : X → List ℕ → Type 0) (bytes : List ℕ) (at : ℕ) → AllBytes bytes → IsFirstBad spells bytes at
+    → IsFirstBadLine spells bytes (line_of_place at bytes)
 first_bad_line spells bytes at fits bad = go (at_end (ltb at (length bytes)) refl)
   where
     at_end : (t : Bool) → ltb at (length bytes) ≡ t → (at < length bytes) ⊎ (at ≡ length bytes)
@@ -120,7 +127,8 @@ first_bad_line spells bytes at fits bad = go (at_end (ltb at (length bytes)) ref
 
     go : (at < length bytes) ⊎ (at ≡ length bytes) → IsFirstBadLine spells bytes (line_of_place at bytes)
     go (inl lt) = subst (λ (n : ℕ). IsFirstBadLine spells bytes n) (sym (place_within bytes at lt)) (within_is_bad spells bytes at fits lt bad)
-    go (inr e) = subst (λ (k : ℕ). IsFirstBadLine spells bytes (line_of_place k bytes)) (sym e) (end_is_bad spells bytes fits (subst (λ (k : ℕ). IsFirstBad spells bytes k) e bad))
+    go (inr e) =
+        subst (λ (k : ℕ). IsFirstBadLine spells bytes (line_of_place k bytes)) (sym e) (end_is_bad spells bytes fits (subst (λ (k : ℕ). IsFirstBad spells bytes k) e bad))
 
 -- ---- one byte more
 
@@ -164,16 +172,19 @@ place_none [] = refl
 place_none (b ∷ []) = refl
 place_none (b ∷ c ∷ bs) = refl
 
-pub place_on : (bytes : List ℕ) (i : ℕ) → (ltb (i + 1) (length bytes) && eqb (get_or bytes i 0) 10) ≡ true → line_of_place (i + 1) bytes ≡ line_of_place i bytes + 1
+pub place_on : (bytes : List ℕ) (i : ℕ) → (ltb (i + 1) (length bytes) && eqb (get_or bytes i 0) 10) ≡ true
+    → line_of_place (i + 1) bytes ≡ line_of_place i bytes + 1
 place_on bytes i on =
     let k = and_true (ltb (i + 1) (length bytes)) (eqb (get_or bytes i 0) 10) on in
     let lt = ltb-true (i + 1) (length bytes) k.0 in
     rw (add-one, add-one) (place_feed bytes i (omega arith) (eqb-true (get_or bytes i 0) 10 k.1))
 
-pub place_off : (bytes : List ℕ) (i : ℕ) → (ltb (i + 1) (length bytes) && eqb (get_or bytes i 0) 10) ≡ false → line_of_place (i + 1) bytes ≡ line_of_place i bytes
+pub place_off : (bytes : List ℕ) (i : ℕ) → (ltb (i + 1) (length bytes) && eqb (get_or bytes i 0) 10) ≡ false
+    → line_of_place (i + 1) bytes ≡ line_of_place i bytes
 place_off bytes i off = rw add-one (at (ltb (i + 1) (length bytes)) (eqb (get_or bytes i 0) 10) refl refl off)
   where
-    at : (t u : Bool) → ltb (i + 1) (length bytes) ≡ t → eqb (get_or bytes i 0) 10 ≡ u → (t && u) ≡ false → line_of_place (suc i) bytes ≡ line_of_place i bytes
+    at : (t u : Bool) → ltb (i + 1) (length bytes) ≡ t → eqb (get_or bytes i 0) 10 ≡ u → (t && u) ≡ false
+        → line_of_place (suc i) bytes ≡ line_of_place i bytes
     at true true t-is u-is off = absurd cc
     at true false t-is u-is off = place_other bytes i (eqb-false (get_or bytes i 0) 10 u-is)
     at false u t-is u-is off = let le = ltb-false (i + 1) (length bytes) t-is in place_last bytes i (omega arith)

@@ -41,7 +41,8 @@ mapped {X} {Y} spells others read f to from reads = record {
 }
 
 -- the bytes themselves
-pub text_reads : {X : Type 0} (spells : X → List ℕ → Type 0) (read : List ℕ → Result (X × List ℕ) ℕ) → Reads spells read → Reads (TextOf spells) (text_at read)
+pub text_reads : {X : Type 0} (spells : X → List ℕ → Type 0) (read : List ℕ → Result (X × List ℕ) ℕ) → Reads spells read
+    → Reads (TextOf spells) (text_at read)
 text_reads {X} spells read reads = record {
   takes = λ bytes y rest e.
       let p = bind_ok (read bytes) (λ x. Ok (take (length bytes - length x.1) bytes, x.1)) (y, rest) e in

@@ -29,7 +29,8 @@ with_bytes-byte front b (Ok p) = ap (λ (xs : List ℕ). Ok (xs, p.1)) (sym (app
 with_bytes-byte front b (Err e) = refl
 
 module _ (test : ℕ → Bool) where
-  with_byte_ok : (b : ℕ) (r : Result (List ℕ × List ℕ) ℕ) (x rest : List ℕ) → with_byte b r ≡ Ok (x, rest) → (y : List ℕ) × (r ≡ Ok (y, rest)) × (x ≡ b ∷ y)
+  with_byte_ok : (b : ℕ) (r : Result (List ℕ × List ℕ) ℕ) (x rest : List ℕ) → with_byte b r ≡ Ok (x, rest)
+      → (y : List ℕ) × (r ≡ Ok (y, rest)) × (x ≡ b ∷ y)
   with_byte_ok b (Ok p) x rest e =
       let same : (b ∷ p.0, p.1) ≡ (x, rest) = ok_is (b ∷ p.0, p.1) (x, rest) e in
       (p.0, ap (λ (q : List ℕ × List ℕ). Ok (p.0, q.1)) same, sym (ap (λ (q : List ℕ × List ℕ). q.0) same))
@@ -39,7 +40,8 @@ module _ (test : ℕ → Bool) where
   with_byte_err b (Ok p) left e = absurd cc
   with_byte_err b (Err d) left e = cc
 
-  passing_takes : (n : ℕ) (bytes x rest : List ℕ) → passing_at test n bytes ≡ Ok (x, rest) → (length x ≡ n) × (list_all test x ≡ true) × (bytes ≡ x ++ rest)
+  passing_takes : (n : ℕ) (bytes x rest : List ℕ) → passing_at test n bytes ≡ Ok (x, rest)
+      → (length x ≡ n) × (list_all test x ≡ true) × (bytes ≡ x ++ rest)
   unfolding passing_at
   passing_takes zero bytes x rest e =
       let same : ([], bytes) ≡ (x, rest) = ok_is ([], bytes) (x, rest) e in
@@ -77,7 +79,8 @@ module _ (test : ℕ → Bool) where
   fill_is c zero fits on = (refl, tt, refl)
   fill_is c (suc n) fits on = let k = fill_is c n fits on in (ap suc k.0, (fits, k.1), rw on k.2)
 
-  passing_stops : (c : ℕ) → c < 256 → test c ≡ true → (n : ℕ) (bytes : List ℕ) (left : ℕ) → passing_at test n bytes ≡ Err left → Stops (Passing test n) bytes left
+  passing_stops : (c : ℕ) → c < 256 → test c ≡ true → (n : ℕ) (bytes : List ℕ) (left : ℕ) → passing_at test n bytes ≡ Err left
+      → Stops (Passing test n) bytes left
   unfolding passing_at
   passing_stops c fits on zero bytes left e = absurd cc
   passing_stops c fits on (suc n) [] left e =
@@ -92,7 +95,8 @@ module _ (test : ℕ → Bool) where
           let all = ap (list_all test) g.2 ∙ g.1 in
           off (front ++ d ∷ more) more (len, (and_true (test b) (list_all test (front ++ d ∷ more)) all).1, refl)
 
-      at : (passing_at test n bytes ≡ Err left → Stops (Passing test n) bytes left) → (t : Bool) → test b ≡ t → cond t (with_byte b (passing_at test n bytes)) (Err (suc (length bytes))) ≡ Err left → Stops (Passing test (suc n)) (b ∷ bytes) left
+      at : (passing_at test n bytes ≡ Err left → Stops (Passing test n) bytes left) → (t : Bool) → test b ≡ t
+          → cond t (with_byte b (passing_at test n bytes)) (Err (suc (length bytes))) ≡ Err left → Stops (Passing test (suc n)) (b ∷ bytes) left
       at later true is e =
           let k = later (with_byte_err b (passing_at test n bytes) left e) in
           let text-is = k.on.3.2 in
@@ -130,13 +134,15 @@ module _ (test : ℕ → Bool) where
   passing_has c fits on n = let k = fill_is c n fits on in (fill c n, fill c n, k.1, (k.0, k.2, refl))
 
   -- a loop over these bytes
-  pub passing_more : (n : ℕ) (bytes : List ℕ) (i : ℕ) → i < n → i < length bytes → test (get_or bytes i 0) ≡ true → passing_at test (n - i) (drop i bytes) ≡ with_byte (get_or bytes i 0) (passing_at test (n - (i + 1)) (drop (i + 1) bytes))
+  pub passing_more : (n : ℕ) (bytes : List ℕ) (i : ℕ) → i < n → i < length bytes → test (get_or bytes i 0) ≡ true
+      → passing_at test (n - i) (drop i bytes) ≡ with_byte (get_or bytes i 0) (passing_at test (n - (i + 1)) (drop (i + 1) bytes))
   unfolding passing_at
   passing_more n bytes i lt within on =
       let k : n - i ≡ suc (n - (i + 1)) = omega arith in
       rw (k, drop_more bytes i 0 within, on) refl
 
-  pub passing_off : (n : ℕ) (bytes : List ℕ) (i : ℕ) → i < n → i < length bytes → test (get_or bytes i 0) ≡ false → passing_at test (n - i) (drop i bytes) ≡ Err (length bytes - i)
+  pub passing_off : (n : ℕ) (bytes : List ℕ) (i : ℕ) → i < n → i < length bytes → test (get_or bytes i 0) ≡ false
+      → passing_at test (n - i) (drop i bytes) ≡ Err (length bytes - i)
   unfolding passing_at
   passing_off n bytes i lt within off =
       let k : n - i ≡ suc (n - (i + 1)) = omega arith in

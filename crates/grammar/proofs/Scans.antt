@@ -48,11 +48,13 @@ module _ {X : Type 0} (may : List ℕ → Bool) (value : List ℕ → Option X) 
 
 -- ---- these bytes, one after the other
 
-pub literal_more : (word bytes : List ℕ) (i : ℕ) → i < length word → i < length bytes → get_or bytes i 0 ≡ get_or word i 0 → literal_at (drop i word) (drop i bytes) ≡ literal_at (drop (i + 1) word) (drop (i + 1) bytes)
+pub literal_more : (word bytes : List ℕ) (i : ℕ) → i < length word → i < length bytes → get_or bytes i 0 ≡ get_or word i 0
+    → literal_at (drop i word) (drop i bytes) ≡ literal_at (drop (i + 1) word) (drop (i + 1) bytes)
 unfolding literal_at
 literal_more word bytes i lw lb e = rw (drop_more word i 0 lw, drop_more bytes i 0 lb, eq-eqb (get_or bytes i 0) (get_or word i 0) e) refl
 
-pub literal_off : (word bytes : List ℕ) (i : ℕ) → i < length word → i < length bytes → (get_or bytes i 0 ≡ get_or word i 0 → ⊥) → literal_at (drop i word) (drop i bytes) ≡ Err (length bytes - i)
+pub literal_off : (word bytes : List ℕ) (i : ℕ) → i < length word → i < length bytes → (get_or bytes i 0 ≡ get_or word i 0 → ⊥)
+    → literal_at (drop i word) (drop i bytes) ≡ Err (length bytes - i)
 unfolding literal_at
 literal_off word bytes i lw lb ne =
     let len : suc (length (drop (i + 1) bytes)) ≡ length bytes - i = omega (arith, length-drop (i + 1) bytes) in

@@ -12,8 +12,10 @@ abbrev pub with_front : {X Z : Type 0} → List X → Result (List X × Z) ℕ �
 with_front front (Ok p) = Ok (front ++ p.0, p.1)
 with_front front (Err e) = Err e
 
-with_front-one : {X Z : Type 0} (front : List X) (x : X) (r : Result (List X × Z) ℕ) → with_front front (with_one x r) ≡ with_front (front ++ x ∷ []) r
-with_front-one {X} {Z} front x (Ok p) = let e : front ++ x ∷ p.0 ≡ (front ++ x ∷ []) ++ p.0 = sym (append_assoc front (x ∷ []) p.0) in ap (λ (xs : List X). Ok (xs, p.1)) e
+with_front-one : {X Z : Type 0} (front : List X) (x : X) (r : Result (List X × Z) ℕ)
+    → with_front front (with_one x r) ≡ with_front (front ++ x ∷ []) r
+with_front-one {X} {Z} front x (Ok p) =
+    let e : front ++ x ∷ p.0 ≡ (front ++ x ∷ []) ++ p.0 = sym (append_assoc front (x ∷ []) p.0) in ap (λ (xs : List X). Ok (xs, p.1)) e
 with_front-one front x (Err e) = refl
 
 module _ {S X Z : Type 0} (test : ℕ → Bool) (next : S → X → S) (each : S → List ℕ → Result (X × List ℕ) ℕ) (last : S → List ℕ → Result Z ℕ) where
@@ -30,24 +32,30 @@ module _ {S X Z : Type 0} (test : ℕ → Bool) (next : S → X → S) (each : S
       none (Ok p) = refl
       none (Err e) = refl
 
-  pub so_far_more : (total : Result (List X × Z) ℕ) (front : List X) (s : S) (b : ℕ) (bytes : List ℕ) (x : X) (after : List ℕ) → test b ≡ true → each s (b ∷ bytes) ≡ Ok (x, after) → length after ≤ length bytes
+  pub so_far_more : (total : Result (List X × Z) ℕ) (front : List X) (s : S) (b : ℕ) (bytes : List ℕ) (x : X) (after : List ℕ) → test b ≡ true
+      → each s (b ∷ bytes) ≡ Ok (x, after) → length after ≤ length bytes
       → SoFar total front s (b ∷ bytes) → SoFar total (front ++ x ∷ []) (next s x) after
   unfolding star_at
   so_far_more total front s b bytes x after on e fits so = at so.n so.enough so.same
     where
-      at : (n : ℕ) → suc (length bytes) ≤ n → with_front front (star_at test next each last n s (b ∷ bytes)) ≡ total → SoFar total (front ++ x ∷ []) (next s x) after
+      at : (n : ℕ) → suc (length bytes) ≤ n → with_front front (star_at test next each last n s (b ∷ bytes)) ≡ total
+          → SoFar total (front ++ x ∷ []) (next s x) after
       at zero enough same = absurd (omega arith)
-      at (suc n) enough same = record { n = n; enough = omega arith; same = sym (with_front-one front x (star_at test next each last n (next s x) after)) ∙ (let k : with_front front (star_at test next each last (suc n) s (b ∷ bytes)) ≡ with_front front (with_one x (star_at test next each last n (next s x) after)) = rw (on, e) refl in sym k ∙ same) }
+      at (suc n) enough same =
+          record { n = n; enough = omega arith; same = sym (with_front-one front x (star_at test next each last n (next s x) after)) ∙ (let k : with_front front (star_at test next each last (suc n) s (b ∷ bytes)) ≡ with_front front (with_one x (star_at test next each last n (next s x) after)) = rw (on, e) refl in sym k ∙ same) }
 
-  pub so_far_err : (total : Result (List X × Z) ℕ) (front : List X) (s : S) (b : ℕ) (bytes : List ℕ) (left : ℕ) → test b ≡ true → each s (b ∷ bytes) ≡ Err left → SoFar total front s (b ∷ bytes) → total ≡ Err left
+  pub so_far_err : (total : Result (List X × Z) ℕ) (front : List X) (s : S) (b : ℕ) (bytes : List ℕ) (left : ℕ) → test b ≡ true
+      → each s (b ∷ bytes) ≡ Err left → SoFar total front s (b ∷ bytes) → total ≡ Err left
   unfolding star_at
   so_far_err total front s b bytes left on e so = at so.n so.enough so.same
     where
       at : (n : ℕ) → suc (length bytes) ≤ n → with_front front (star_at test next each last n s (b ∷ bytes)) ≡ total → total ≡ Err left
       at zero enough same = absurd (omega arith)
-      at (suc n) enough same = let k : with_front front (star_at test next each last (suc n) s (b ∷ bytes)) ≡ Err left = rw (on, e) refl in sym same ∙ k
+      at (suc n) enough same =
+          let k : with_front front (star_at test next each last (suc n) s (b ∷ bytes)) ≡ Err left = rw (on, e) refl in sym same ∙ k
 
-  pub so_far_nil : (total : Result (List X × Z) ℕ) (front : List X) (s : S) → SoFar total front s [] → total ≡ with_front front (with_none (last s []))
+  pub so_far_nil : (total : Result (List X × Z) ℕ) (front : List X) (s : S) → SoFar total front s []
+      → total ≡ with_front front (with_none (last s []))
   unfolding star_at
   so_far_nil total front s so = at so.n so.same
     where
@@ -55,13 +63,17 @@ module _ {S X Z : Type 0} (test : ℕ → Bool) (next : S → X → S) (each : S
       at zero same = sym same
       at (suc n) same = sym same
 
-  pub so_far_last : (total : Result (List X × Z) ℕ) (front : List X) (s : S) (b : ℕ) (bytes : List ℕ) → test b ≡ false → SoFar total front s (b ∷ bytes) → total ≡ with_front front (with_none (last s (b ∷ bytes)))
+  pub so_far_last : (total : Result (List X × Z) ℕ) (front : List X) (s : S) (b : ℕ) (bytes : List ℕ) → test b ≡ false
+      → SoFar total front s (b ∷ bytes) → total ≡ with_front front (with_none (last s (b ∷ bytes)))
   unfolding star_at
   so_far_last total front s b bytes off so = at so.n so.enough so.same
     where
-      at : (n : ℕ) → suc (length bytes) ≤ n → with_front front (star_at test next each last n s (b ∷ bytes)) ≡ total → total ≡ with_front front (with_none (last s (b ∷ bytes)))
+      at : (n : ℕ) → suc (length bytes) ≤ n → with_front front (star_at test next each last n s (b ∷ bytes)) ≡ total
+          → total ≡ with_front front (with_none (last s (b ∷ bytes)))
       at zero enough same = absurd (omega arith)
-      at (suc n) enough same = let k : with_front front (star_at test next each last (suc n) s (b ∷ bytes)) ≡ with_front front (with_none (last s (b ∷ bytes))) = rw off refl in sym same ∙ k
+      at (suc n) enough same =
+          let k : with_front front (star_at test next each last (suc n) s (b ∷ bytes)) ≡ with_front front (with_none (last s (b ∷ bytes))) = rw off refl in sym same
+          ∙ k
 
 -- the same, for the loop of a star
 module _ {S X Z : Type 0} (IsGood : S → Type 0) (test : ℕ → Bool) (next : S → X → S) (each : S → X → List ℕ → Type 0) (last : S → Z → List ℕ → Type 0)
@@ -74,7 +86,8 @@ module _ {S X Z : Type 0} (IsGood : S → Type 0) (test : ℕ → Bool) (next : 
   pub loop_none : (s : S) (bytes : List ℕ) → IsGood s → Loop (star_at test next read_each read_last (length bytes) s bytes) [] s bytes
   loop_none s bytes good = record { so_far = so_far_none test next read_each read_last s bytes; good = good }
 
-  pub loop_more : (total : Result (List X × Z) ℕ) (front : List X) (s : S) (rest : List ℕ) (x : X) (after : List ℕ) → begins test rest ≡ true → read_each s rest ≡ Ok (x, after)
+  pub loop_more : (total : Result (List X × Z) ℕ) (front : List X) (s : S) (rest : List ℕ) (x : X) (after : List ℕ) → begins test rest ≡ true
+      → read_each s rest ≡ Ok (x, after)
       → Loop total front s rest → Loop total (front ++ x ∷ []) (next s x) after × (length after < length rest)
   loop_more total front s [] x after on e l = absurd cc
   loop_more total front s (b ∷ bytes) x after on e l =
@@ -88,11 +101,13 @@ module _ {S X Z : Type 0} (IsGood : S → Type 0) (test : ℕ → Bool) (next : 
         short,
       )
 
-  pub loop_err : (total : Result (List X × Z) ℕ) (front : List X) (s : S) (rest : List ℕ) (d : ReadError) → begins test rest ≡ true → Fails d (read_each s rest) → Loop total front s rest → Fails d total
+  pub loop_err : (total : Result (List X × Z) ℕ) (front : List X) (s : S) (rest : List ℕ) (d : ReadError) → begins test rest ≡ true
+      → Fails d (read_each s rest) → Loop total front s rest → Fails d total
   loop_err total front s rest errors.Memory on e l = tt
   loop_err total front s [] (errors.Stopped n) on e l = absurd cc
   loop_err total front s (b ∷ bytes) (errors.Stopped n) on e l = so_far_err test next read_each read_last total front s b bytes n on e l.so_far
 
-  pub loop_last : (total : Result (List X × Z) ℕ) (front : List X) (s : S) (rest : List ℕ) → begins test rest ≡ false → Loop total front s rest → total ≡ with_front front (with_none (read_last s rest))
+  pub loop_last : (total : Result (List X × Z) ℕ) (front : List X) (s : S) (rest : List ℕ) → begins test rest ≡ false → Loop total front s rest
+      → total ≡ with_front front (with_none (read_last s rest))
   loop_last total front s [] off l = so_far_nil test next read_each read_last total front s l.so_far
   loop_last total front s (b ∷ bytes) off l = so_far_last test next read_each read_last total front s b bytes off l.so_far

@@ -19,7 +19,8 @@ others_first test [] c rest h e = absurd cc
 others_first test (d ∷ a) c rest h e = let same : c ≡ d = cc in ap test same ∙ h
 
 -- bytes that are cut at a place begin with the same byte, whatever follows the place
-first_byte : (front : List ℕ) (c : ℕ) (back more : List ℕ) (b : ℕ) (bytes : List ℕ) → b ∷ bytes ≡ front ++ c ∷ back → (rest : List ℕ) × (front ++ c ∷ more ≡ b ∷ rest)
+first_byte : (front : List ℕ) (c : ℕ) (back more : List ℕ) (b : ℕ) (bytes : List ℕ) → b ∷ bytes ≡ front ++ c ∷ back
+    → (rest : List ℕ) × (front ++ c ∷ more ≡ b ∷ rest)
 first_byte [] c back more b bytes e = (more, let k : c ≡ b = cc in ap (λ (d : ℕ). d ∷ more) k)
 first_byte (d ∷ front) c back more b bytes e = (front ++ c ∷ more, let k : d ≡ b = cc in ap (λ (d : ℕ). d ∷ (front ++ c ∷ more)) k)
 
@@ -37,7 +38,8 @@ none_err : {X Z : Type 0} (r : Result Z ℕ) (left : ℕ) → with_none {X = X} 
 none_err (Ok w) left e = absurd cc
 none_err (Err d) left e = cc
 
-one_ok : {X Z : Type 0} (x : X) (r : Result (List X × Z) ℕ) (xs : List X) (z : Z) → with_one x r ≡ Ok (xs, z) → (ys : List X) × (r ≡ Ok (ys, z)) × (xs ≡ x ∷ ys)
+one_ok : {X Z : Type 0} (x : X) (r : Result (List X × Z) ℕ) (xs : List X) (z : Z) → with_one x r ≡ Ok (xs, z)
+    → (ys : List X) × (r ≡ Ok (ys, z)) × (xs ≡ x ∷ ys)
 one_ok {X} {Z} x (Ok p) xs z e =
     let same : (x ∷ p.0, p.1) ≡ (xs, z) = ok_is (x ∷ p.0, p.1) (xs, z) e in
     (p.0, ap (λ (q : List X × Z). Ok (p.0, q.1)) same, sym (ap (λ (q : List X × Z). q.0) same))
@@ -56,7 +58,8 @@ module _ {S X Z : Type 0} (IsGood : S → Type 0) (test : ℕ → Bool) (next : 
   abbrev After : S → X → List X × Z → List ℕ → Type 0
   After s x p text = (q : List X × Z) × spells (next s x) q text × (p ≡ (x ∷ q.0, q.1))
 
-  as_then : (s : S) (xs : List X) (z : Z) (b : ℕ) (text : List ℕ) → IsGood s → test b ≡ true → (rest : List ℕ) → text ≡ b ∷ rest → spells s (xs, z) text → Then (each s) (After s) (xs, z) text
+  as_then : (s : S) (xs : List X) (z : Z) (b : ℕ) (text : List ℕ) → IsGood s → test b ≡ true → (rest : List ℕ) → text ≡ b ∷ rest
+      → spells s (xs, z) text → Then (each s) (After s) (xs, z) text
   as_then s [] z b text good on rest e g =
       let off = others_first test text b rest (star.begins_last s z text g) e in absurd cc
   as_then s (x ∷ xs) z b text good on rest e g = (x, g.0, g.1, g.2, ((xs, z), g.3, refl), g.4)
@@ -65,13 +68,15 @@ module _ {S X Z : Type 0} (IsGood : S → Type 0) (test : ℕ → Bool) (next : 
   from_then s p text g =
       subst (λ (y : List X × Z). spells s y text) (sym g.4.2) (g.1, g.2, g.3, g.4.1, g.5)
 
-  last_takes : (s : S) (bytes : List ℕ) (xs : List X) (z : Z) → IsGood s → with_none (read_last s bytes) ≡ Ok (xs, z) → Star next each last s xs z bytes
+  last_takes : (s : S) (bytes : List ℕ) (xs : List X) (z : Z) → IsGood s → with_none (read_last s bytes) ≡ Ok (xs, z)
+      → Star next each last s xs z bytes
   last_takes s bytes xs z good e =
       let p = none_ok (read_last s bytes) xs z e in
       subst (λ (ys : List X). Star next each last s ys z bytes) (sym p.0) ((star.reads_last s good).takes bytes z p.1)
 
   -- where no further one begins, the last is met
-  no_text : (s : S) (front : List ℕ) (c : ℕ) (back more : List ℕ) (bytes : List ℕ) → bytes ≡ front ++ c ∷ back → BeginsOtherwise test bytes → NoneGoesOn (last s) front (c ∷ back)
+  no_text : (s : S) (front : List ℕ) (c : ℕ) (back more : List ℕ) (bytes : List ℕ) → bytes ≡ front ++ c ∷ back → BeginsOtherwise test bytes
+      → NoneGoesOn (last s) front (c ∷ back)
       → (xs : List X) (z : Z) → Star next each last s xs z (front ++ c ∷ more) → ⊥
   no_text s front c back more bytes parts other off [] z g = off z more g
   no_text s front c back more [] parts other off (x ∷ xs) z g = not_nil front c back parts
@@ -80,11 +85,13 @@ module _ {S X Z : Type 0} (IsGood : S → Type 0) (test : ℕ → Bool) (next : 
       let on = begins_behind test g.0 g.1 b f.0 (star.begins s x g.0 g.2) (sym f.1 ∙ g.4) in
       cc
 
-  off_last : (s : S) (bytes front back : List ℕ) → bytes ≡ front ++ back → BeginsOtherwise test bytes → NoneGoesOn (last s) front back → NoneGoesOn (spells s) front back
+  off_last : (s : S) (bytes front back : List ℕ) → bytes ≡ front ++ back → BeginsOtherwise test bytes → NoneGoesOn (last s) front back
+      → NoneGoesOn (spells s) front back
   off_last s bytes front [] parts other off = tt
   off_last s bytes front (c ∷ back) parts other off = λ p more g. no_text s front c back more bytes parts other off p.0 p.1 g
 
-  last_stops : (s : S) (bytes : List ℕ) (left : ℕ) → IsGood s → BeginsOtherwise test bytes → with_none {X = X} (read_last s bytes) ≡ Err left → Stops (spells s) bytes left
+  last_stops : (s : S) (bytes : List ℕ) (left : ℕ) → IsGood s → BeginsOtherwise test bytes → with_none {X = X} (read_last s bytes) ≡ Err left
+      → Stops (spells s) bytes left
   last_stops s bytes left good other e =
       let q = (star.reads_last s good).stops bytes left (none_err (read_last s bytes) left e) in
       record {
@@ -97,13 +104,15 @@ module _ {S X Z : Type 0} (IsGood : S → Type 0) (test : ℕ → Bool) (next : 
       }
 
   -- where a further one begins, it is read
-  off_from_then : (s : S) (b : ℕ) (bytes front back : List ℕ) → IsGood s → test b ≡ true → b ∷ bytes ≡ front ++ back → NoneGoesOn (Then (each s) (After s)) front back → NoneGoesOn (spells s) front back
+  off_from_then : (s : S) (b : ℕ) (bytes front back : List ℕ) → IsGood s → test b ≡ true → b ∷ bytes ≡ front ++ back
+      → NoneGoesOn (Then (each s) (After s)) front back → NoneGoesOn (spells s) front back
   off_from_then s b bytes front [] good on parts off = tt
   off_from_then s b bytes front (c ∷ back) good on parts off = λ p more g.
       let f = first_byte front c back more b bytes parts in
       off p more (as_then s p.0 p.1 b (front ++ c ∷ more) good on f.0 f.1 g)
 
-  stops_from_then : (s : S) (b : ℕ) (bytes : List ℕ) (left : ℕ) → IsGood s → test b ≡ true → Stops (Then (each s) (After s)) (b ∷ bytes) left → Stops (spells s) (b ∷ bytes) left
+  stops_from_then : (s : S) (b : ℕ) (bytes : List ℕ) (left : ℕ) → IsGood s → test b ≡ true → Stops (Then (each s) (After s)) (b ∷ bytes) left
+      → Stops (spells s) (b ∷ bytes) left
   stops_from_then s b bytes left good on q = record {
     front = q.front;
     back = q.back;
@@ -114,7 +123,8 @@ module _ {S X Z : Type 0} (IsGood : S → Type 0) (test : ℕ → Bool) (next : 
   }
 
   after_stops : (s : S) (x : X) (bytes : List ℕ) (left : ℕ) → Stops (spells (next s x)) bytes left → Stops (After s x) bytes left
-  after_stops s x bytes left q = stops_same (spells (next s x)) (After s x) bytes left (λ p text g. ((x ∷ p.0, p.1), (p, g, refl))) (λ p text g. (g.0, g.1)) q
+  after_stops s x bytes left q =
+      stops_same (spells (next s x)) (After s x) bytes left (λ p text g. ((x ∷ p.0, p.1), (p, g, refl))) (λ p text g. (g.0, g.1)) q
 
   after_has : (s : S) (x : X) (text : List ℕ) → IsGood s → each s x text → HasText (After s x)
   after_has s x text good g =
@@ -133,7 +143,8 @@ module _ {S X Z : Type 0} (IsGood : S → Type 0) (test : ℕ → Bool) (next : 
   abbrev rest_of : ℕ → X → S → List ℕ → Result (List X × Z) ℕ
   rest_of n x s bytes = with_one x (star_at test next read_each read_last n (next s x) bytes)
 
-  pub star_takes : (n : ℕ) (s : S) (bytes : List ℕ) (xs : List X) (z : Z) → IsGood s → length bytes ≤ n → star_at test next read_each read_last n s bytes ≡ Ok (xs, z) → Star next each last s xs z bytes
+  pub star_takes : (n : ℕ) (s : S) (bytes : List ℕ) (xs : List X) (z : Z) → IsGood s → length bytes ≤ n
+      → star_at test next read_each read_last n s bytes ≡ Ok (xs, z) → Star next each last s xs z bytes
   unfolding star_at
   star_takes zero s [] xs z good fits e = last_takes s [] xs z good e
   star_takes (suc n) s [] xs z good fits e = last_takes s [] xs z good e
@@ -150,7 +161,8 @@ module _ {S X Z : Type 0} (IsGood : S → Type 0) (test : ℕ → Bool) (next : 
           subst (λ (ys : List X). Star next each last s ys z (b ∷ bytes)) (sym q.2) (a.0, p.0.1, a.1, rest, a.2)
       at later false e = last_takes s (b ∷ bytes) xs z good e
 
-  pub star_again : (n : ℕ) (s : S) (xs : List X) (z : Z) (bytes : List ℕ) → IsGood s → length bytes ≤ n → Star next each last s xs z bytes → star_at test next read_each read_last n s bytes ≡ Ok (xs, z)
+  pub star_again : (n : ℕ) (s : S) (xs : List X) (z : Z) (bytes : List ℕ) → IsGood s → length bytes ≤ n → Star next each last s xs z bytes
+      → star_at test next read_each read_last n s bytes ≡ Ok (xs, z)
   unfolding star_at
   star_again zero s [] z [] good fits g = ap with_none ((star.reads_last s good).again z [] g)
   star_again (suc n) s [] z [] good fits g = ap with_none ((star.reads_last s good).again z [] g)
@@ -167,7 +179,8 @@ module _ {S X Z : Type 0} (IsGood : S → Type 0) (test : ℕ → Bool) (next : 
       let rest = star_again n (next s x) xs z g.1 (star.stays_good s x g.0 good g.2) (shorter s x g.0 g.1 (b ∷ bytes) n g.2 g.4 fits) g.3 in
       rw on (ap (λ r. r >>= λ y. rest_of n y.0 s y.1) first ∙ ap (with_one x) rest)
 
-  pub star_stops : (n : ℕ) (s : S) (bytes : List ℕ) (left : ℕ) → IsGood s → length bytes ≤ n → star_at test next read_each read_last n s bytes ≡ Err left → Stops (spells s) bytes left
+  pub star_stops : (n : ℕ) (s : S) (bytes : List ℕ) (left : ℕ) → IsGood s → length bytes ≤ n
+      → star_at test next read_each read_last n s bytes ≡ Err left → Stops (spells s) bytes left
   unfolding star_at
   star_stops zero s [] left good fits e = last_stops s [] left good tt e
   star_stops (suc n) s [] left good fits e = last_stops s [] left good tt e
@@ -187,7 +200,8 @@ module _ {S X Z : Type 0} (IsGood : S → Type 0) (test : ℕ → Bool) (next : 
           ])
       at later false is e = last_stops s (b ∷ bytes) left good is e
 
-  pub star_reads : (s : S) → IsGood s → ReadsAll (λ p text. Star next each last s p.0 p.1 text) (λ bytes. star_at test next read_each read_last (length bytes) s bytes)
+  pub star_reads : (s : S) → IsGood s
+      → ReadsAll (λ p text. Star next each last s p.0 p.1 text) (λ bytes. star_at test next read_each read_last (length bytes) s bytes)
   star_reads s good = record {
     takes = λ bytes p e. star_takes (length bytes) s bytes p.0 p.1 good (omega arith) e;
     again = λ p bytes g. star_again (length bytes) s p.0 p.1 bytes good (omega arith) g;

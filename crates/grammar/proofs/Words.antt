@@ -15,7 +15,8 @@ ended_err : {X : Type 0} (o : Option X) (bytes : List ℕ) (left : ℕ) → ende
 ended_err (Some y) bytes left e = absurd cc
 ended_err None bytes left e = let k : length bytes + 1 ≡ left = cc in (refl, omega arith)
 
-takes_step : {X : Type 0} (may : List ℕ → Bool) (value : List ℕ → Option X) (stop : ℕ) (seen : List ℕ) (b : ℕ) (bytes : List ℕ) (x : X) (rest : List ℕ) (t m : Bool) → eqb b stop ≡ t
+takes_step : {X : Type 0} (may : List ℕ → Bool) (value : List ℕ → Option X) (stop : ℕ) (seen : List ℕ) (b : ℕ) (bytes : List ℕ) (x : X) (rest : List ℕ) (t m : Bool)
+    → eqb b stop ≡ t
     → (word_at may value stop (seen ++ b ∷ []) bytes ≡ Ok (x, rest) → (w : List ℕ) × (value ((seen ++ b ∷ []) ++ w) ≡ Some x) × (bytes ≡ w ++ stop ∷ rest))
     → cond t (ended (value seen) bytes) (cond m (word_at may value stop (seen ++ b ∷ []) bytes) (Err (suc (length bytes)))) ≡ Ok (x, rest)
     → (w : List ℕ) × (value (seen ++ w) ≡ Some x) × (b ∷ bytes ≡ w ++ stop ∷ rest)
@@ -38,7 +39,8 @@ word_takes may value stop seen [] x rest e = absurd cc
 word_takes may value stop seen (b ∷ bytes) x rest e =
     takes_step may value stop seen b bytes x rest (eqb b stop) (may (seen ++ b ∷ [])) refl (word_takes may value stop (seen ++ b ∷ []) bytes x rest) e
 
-word_again : {X : Type 0} (may : List ℕ → Bool) (value : List ℕ → Option X) (stop : ℕ) → IsWord may value stop → (seen w : List ℕ) (x : X) (rest : List ℕ)
+word_again : {X : Type 0} (may : List ℕ → Bool) (value : List ℕ → Option X) (stop : ℕ) → IsWord may value stop
+    → (seen w : List ℕ) (x : X) (rest : List ℕ)
     → value (seen ++ w) ≡ Some x → word_at may value stop seen (w ++ stop ∷ rest) ≡ Ok (x, rest)
 unfolding word_at
 word_again may value stop is seen [] x rest v =
@@ -63,7 +65,8 @@ single stop b (c ∷ []) more e = absurd cc
 single stop b (c ∷ d ∷ u) more e = absurd cc
 
 -- one byte ends a word or belongs to it
-ends_or_not : (w seen more : List ℕ) (stop b : ℕ) → w ++ stop ∷ [] ≡ seen ++ b ∷ more → ((w ≡ seen) × (b ≡ stop)) ⊎ ((u : List ℕ) × (w ≡ seen ++ b ∷ u))
+ends_or_not : (w seen more : List ℕ) (stop b : ℕ) → w ++ stop ∷ [] ≡ seen ++ b ∷ more
+    → ((w ≡ seen) × (b ≡ stop)) ⊎ ((u : List ℕ) × (w ≡ seen ++ b ∷ u))
 ends_or_not w seen more stop b e =
     elim (cuts w (stop ∷ []) seen (b ∷ more) e) [
       | inl h ↦
@@ -76,7 +79,8 @@ ends_or_not w seen more stop b e =
           inr (h.1, h.2 ∙ ap (λ (c : ℕ). seen ++ c ∷ h.1) same)
     ]
 
-off_here : {X : Type 0} (may : List ℕ → Bool) (value : List ℕ → Option X) (stop : ℕ) → IsWord may value stop → (seen : List ℕ) (b : ℕ) (bytes : List ℕ)
+off_here : {X : Type 0} (may : List ℕ → Bool) (value : List ℕ → Option X) (stop : ℕ) → IsWord may value stop
+    → (seen : List ℕ) (b : ℕ) (bytes : List ℕ)
     → (b ≡ stop → value seen ≡ None) → ((b ≡ stop → ⊥) → may (seen ++ b ∷ []) ≡ false) → NoneGoesOn (Word value stop) seen (b ∷ bytes)
 off_here may value stop is seen b bytes at_stop at_other = λ x more g.
     elim (ends_or_not g.0 seen more stop b (sym g.2)) [
@@ -91,7 +95,8 @@ off_here may value stop is seen b bytes at_stop at_other = λ x more g.
           absurd cc
     ]
 
-stops_step : {X : Type 0} (may : List ℕ → Bool) (value : List ℕ → Option X) (stop : ℕ) → IsWord may value stop → (seen : List ℕ) (b : ℕ) (bytes : List ℕ) (left : ℕ) (t m : Bool)
+stops_step : {X : Type 0} (may : List ℕ → Bool) (value : List ℕ → Option X) (stop : ℕ) → IsWord may value stop
+    → (seen : List ℕ) (b : ℕ) (bytes : List ℕ) (left : ℕ) (t m : Bool)
     → may seen ≡ true → eqb b stop ≡ t → may (seen ++ b ∷ []) ≡ m
     → (may (seen ++ b ∷ []) ≡ true → word_at may value stop (seen ++ b ∷ []) bytes ≡ Err left → Later may value stop (seen ++ b ∷ []) bytes left)
     → cond t (ended (value seen) bytes) (cond m (word_at may value stop (seen ++ b ∷ []) bytes) (Err (suc (length bytes)))) ≡ Err left
@@ -129,11 +134,13 @@ stops_step may value stop is seen b bytes left false false on t-is m-is later e 
 word_stops : {X : Type 0} (may : List ℕ → Bool) (value : List ℕ → Option X) (stop : ℕ) → IsWord may value stop → (seen bytes : List ℕ) (left : ℕ)
     → may seen ≡ true → word_at may value stop seen bytes ≡ Err left → Later may value stop seen bytes left
 unfolding word_at
-word_stops may value stop is seen [] left on e = record { front = []; back = []; parts = refl; left_is = cc; on = ap may (append-nil seen) ∙ on; off = tt }
+word_stops may value stop is seen [] left on e =
+    record { front = []; back = []; parts = refl; left_is = cc; on = ap may (append-nil seen) ∙ on; off = tt }
 word_stops may value stop is seen (b ∷ bytes) left on e =
     stops_step may value stop is seen b bytes left (eqb b stop) (may (seen ++ b ∷ [])) on refl refl (word_stops may value stop is (seen ++ b ∷ []) bytes left) e
 
-pub word_reads : {X : Type 0} (may : List ℕ → Bool) (value : List ℕ → Option X) (stop : ℕ) → IsWord may value stop → Reads (Word value stop) (word_at may value stop [])
+pub word_reads : {X : Type 0} (may : List ℕ → Bool) (value : List ℕ → Option X) (stop : ℕ) → IsWord may value stop
+    → Reads (Word value stop) (word_at may value stop [])
 word_reads may value stop is = record {
   takes = λ bytes x rest e.
       let k = word_takes may value stop [] bytes x rest e in
@@ -148,7 +155,8 @@ word_reads may value stop is = record {
         back = k.back;
         parts = k.parts;
         left_is = k.left_is;
-        on = (m.0, m.1 ++ stop ∷ [], AllBytes-append m.1 (stop ∷ []) m.2 (is.stop_fits, tt), (k.front ++ m.1, m.3, sym (append_assoc k.front m.1 (stop ∷ []))));
+        on =
+            (m.0, m.1 ++ stop ∷ [], AllBytes-append m.1 (stop ∷ []) m.2 (is.stop_fits, tt), (k.front ++ m.1, m.3, sym (append_assoc k.front m.1 (stop ∷ []))));
         off = k.off;
       };
 }
@@ -165,34 +173,43 @@ unfolding word_at
 span_then may value stop seen [] = refl
 span_then {X} may value stop seen (b ∷ bytes) = at (eqb b stop) (may (seen ++ b ∷ [])) (span_then may value stop (seen ++ b ∷ []) bytes)
   where
-    at : (t m : Bool) → (word_at may (λ w. Some w) stop (seen ++ b ∷ []) bytes >>= λ x. ended (value x.0) x.1) ≡ word_at may value stop (seen ++ b ∷ []) bytes
+    at : (t m : Bool)
+        → (word_at may (λ w. Some w) stop (seen ++ b ∷ []) bytes >>= λ x. ended (value x.0) x.1) ≡ word_at may value stop (seen ++ b ∷ []) bytes
         → (cond t (ended (Some seen) bytes) (cond m (word_at may (λ w. Some w) stop (seen ++ b ∷ []) bytes) (Err (suc (length bytes)))) >>= λ x. ended (value x.0) x.1)
         ≡ cond t (ended (value seen) bytes) (cond m (word_at may value stop (seen ++ b ∷ []) bytes) (Err (suc (length bytes))))
     at true m later = refl
     at false true later = later
     at false false later = refl
 
-pub reads_by : {X : Type 0} (spells : X → List ℕ → Type 0) (read other : List ℕ → Result (X × List ℕ) ℕ) → ((bytes : List ℕ) → other bytes ≡ read bytes) → Reads spells read → Reads spells other
+pub reads_by : {X : Type 0} (spells : X → List ℕ → Type 0) (read other : List ℕ → Result (X × List ℕ) ℕ)
+    → ((bytes : List ℕ) → other bytes ≡ read bytes) → Reads spells read → Reads spells other
 reads_by spells read other same reads = record {
   takes = λ bytes x rest e. reads.takes bytes x rest (sym (same bytes) ∙ e);
   again = λ x text rest g. same (text ++ rest) ∙ reads.again x text rest g;
   stops = λ bytes left e. reads.stops bytes left (sym (same bytes) ∙ e);
 }
 
-pub valued_reads : {X : Type 0} (may : List ℕ → Bool) (value : List ℕ → Option X) (stop : ℕ) → IsWord may value stop → Reads (Word value stop) (valued_at may value stop)
-valued_reads may value stop is = reads_by (Word value stop) (word_at may value stop []) (valued_at may value stop) (λ bytes. span_then may value stop [] bytes) (word_reads may value stop is)
+pub valued_reads : {X : Type 0} (may : List ℕ → Bool) (value : List ℕ → Option X) (stop : ℕ) → IsWord may value stop
+    → Reads (Word value stop) (valued_at may value stop)
+valued_reads may value stop is =
+    reads_by (Word value stop) (word_at may value stop []) (valued_at may value stop) (λ bytes. span_then may value stop [] bytes) (word_reads may value stop is)
 
 -- the value of a word that was read
-pub valued_of : {X : Type 0} (may : List ℕ → Bool) (value : List ℕ → Option X) (stop : ℕ) (bytes w rest : List ℕ) (o : Option X) → span_at may stop bytes ≡ Ok (w, rest) → value w ≡ o → valued_at may value stop bytes ≡ ended o rest
-valued_of {X} may value stop bytes w rest o e v = ap (λ (r : Result (List ℕ × List ℕ) ℕ). r >>= λ x. ended (value x.0) x.1) e ∙ ap (λ (p : Option X). ended p rest) v
+pub valued_of : {X : Type 0} (may : List ℕ → Bool) (value : List ℕ → Option X) (stop : ℕ) (bytes w rest : List ℕ) (o : Option X)
+    → span_at may stop bytes ≡ Ok (w, rest) → value w ≡ o → valued_at may value stop bytes ≡ ended o rest
+valued_of {X} may value stop bytes w rest o e v =
+    ap (λ (r : Result (List ℕ × List ℕ) ℕ). r >>= λ x. ended (value x.0) x.1) e ∙ ap (λ (p : Option X). ended p rest) v
 
 -- a word that was read passes
-span_passes : (may : List ℕ → Bool) (stop : ℕ) (seen bytes w rest : List ℕ) → may seen ≡ true → word_at may (λ v. Some v) stop seen bytes ≡ Ok (w, rest) → may w ≡ true
+span_passes : (may : List ℕ → Bool) (stop : ℕ) (seen bytes w rest : List ℕ) → may seen ≡ true
+    → word_at may (λ v. Some v) stop seen bytes ≡ Ok (w, rest) → may w ≡ true
 unfolding word_at
 span_passes may stop seen [] w rest on e = absurd cc
-span_passes may stop seen (b ∷ bytes) w rest on e = at (eqb b stop) (may (seen ++ b ∷ [])) refl (λ m e. span_passes may stop (seen ++ b ∷ []) bytes w rest m e) e
+span_passes may stop seen (b ∷ bytes) w rest on e =
+    at (eqb b stop) (may (seen ++ b ∷ [])) refl (λ m e. span_passes may stop (seen ++ b ∷ []) bytes w rest m e) e
   where
-    at : (t m : Bool) → may (seen ++ b ∷ []) ≡ m → (may (seen ++ b ∷ []) ≡ true → word_at may (λ v. Some v) stop (seen ++ b ∷ []) bytes ≡ Ok (w, rest) → may w ≡ true)
+    at : (t m : Bool) → may (seen ++ b ∷ []) ≡ m
+        → (may (seen ++ b ∷ []) ≡ true → word_at may (λ v. Some v) stop (seen ++ b ∷ []) bytes ≡ Ok (w, rest) → may w ≡ true)
         → cond t (ended (Some seen) bytes) (cond m (word_at may (λ v. Some v) stop (seen ++ b ∷ []) bytes) (Err (suc (length bytes)))) ≡ Ok (w, rest) → may w ≡ true
     at true m m-is later e =
         let same : (seen, bytes) ≡ (w, rest) = ok_is (seen, bytes) (w, rest) e in
@@ -203,5 +220,6 @@ span_passes may stop seen (b ∷ bytes) w rest on e = at (eqb b stop) (may (seen
 pub span_may : (may : List ℕ → Bool) (stop : ℕ) (bytes w rest : List ℕ) → may [] ≡ true → span_at may stop bytes ≡ Ok (w, rest) → may w ≡ true
 span_may may stop bytes w rest on e = span_passes may stop [] bytes w rest on e
 
-pub valued_err : {X : Type 0} (may : List ℕ → Bool) (value : List ℕ → Option X) (stop : ℕ) (bytes : List ℕ) (left : ℕ) → span_at may stop bytes ≡ Err left → valued_at may value stop bytes ≡ Err left
+pub valued_err : {X : Type 0} (may : List ℕ → Bool) (value : List ℕ → Option X) (stop : ℕ) (bytes : List ℕ) (left : ℕ)
+    → span_at may stop bytes ≡ Err left → valued_at may value stop bytes ≡ Err left
 valued_err may value stop bytes left e = ap (λ (r : Result (List ℕ × List ℕ) ℕ). r >>= λ x. ended (value x.0) x.1) e

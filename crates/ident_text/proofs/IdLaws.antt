@@ -31,7 +31,8 @@ IdDigits x text = AreIdDigits x × (text ≡ x)
 
 pub digits_read : Reads IdDigits id_digits_from
 unfolding id_digits_from
-digits_read = reads_same (Passing is_hex_digit 40) IdDigits id_digits_from (λ x text g. (record { forty = g.0; hex = g.1 }, g.2)) (λ x text g. (g.0.forty, g.0.hex, g.1)) (passing_reads is_hex_digit 48 (omega arith) refl 40)
+digits_read =
+    reads_same (Passing is_hex_digit 40) IdDigits id_digits_from (λ x text g. (record { forty = g.0; hex = g.1 }, g.2)) (λ x text g. (g.0.forty, g.0.hex, g.1)) (passing_reads is_hex_digit 48 (omega arith) refl 40)
 
 pub digits_have : HasText IdDigits
 digits_have = let h = passing_has is_hex_digit 48 (omega arith) refl 40 in (h.0, h.1, h.2, (record { forty = h.3.0; hex = h.3.1 }, h.3.2))
@@ -49,4 +50,5 @@ id_reads = mapped IdDigits SpellsId id_digits_from id_of_digits
     digits_read
 
 pub id_has : HasText SpellsId
-id_has = let h = digits_have in (id_of_digits h.0, h.1, h.2, subst (λ (t : List ℕ). SpellsId (id_of_digits h.0) t) (sym h.3.1) (digits_spell h.0 h.3.0))
+id_has =
+    let h = digits_have in (id_of_digits h.0, h.1, h.2, subst (λ (t : List ℕ). SpellsId (id_of_digits h.0) t) (sym h.3.1) (digits_spell h.0 h.3.0))

@@ -23,7 +23,8 @@ use Rattle.ident_text.proofs.Secs.{both_true, asked, some_is, not_this, is_secs_
 -- ---- the name
 
 -- a front of what passes passes, and so does its last byte
-pub front_passes : (test : ℕ → Bool) (front back : List ℕ) (b : ℕ) → list_all test (front ++ b ∷ back) ≡ true → (list_all test (front ++ b ∷ []) ≡ true) × (test b ≡ true)
+pub front_passes : (test : ℕ → Bool) (front back : List ℕ) (b : ℕ) → list_all test (front ++ b ∷ back) ≡ true
+    → (list_all test (front ++ b ∷ []) ≡ true) × (test b ≡ true)
 front_passes test front back b all =
     let whole = ap (list_all test) (append_assoc front (b ∷ []) back) ∙ all in
     let k = and_true (list_all test (front ++ b ∷ [])) (list_all test back) (sym (list_all-append test (front ++ b ∷ []) back) ∙ whole) in
@@ -74,14 +75,18 @@ is_name : IsWord (list_all is_ident_byte) name_value 60
 is_name = record {
   stop_fits = omega arith;
   starts = refl;
-  fronts = λ front back b x v. let k = front_passes is_ident_byte front back b (name_of (front ++ b ∷ back) x v).0 in (k.0, not_this is_ident_byte b 60 k.1 refl);
+  fronts =
+      λ front back b x v. let k =
+          front_passes is_ident_byte front back b (name_of (front ++ b ∷ back) x v).0 in (k.0, not_this is_ident_byte b 60 k.1 refl);
   ends = λ front m. (front, 32 ∷ [], (omega arith, tt), spaced front m);
 }
 
 -- what the code has read of a name
-pub name_read : (bytes w rest : List ℕ) → run_at is_ident_byte 60 bytes ≡ Ok (w, rest) → ends_in_space w ≡ true → name_from bytes ≡ Ok (take (length w - 1) w, rest)
+pub name_read : (bytes w rest : List ℕ) → run_at is_ident_byte 60 bytes ≡ Ok (w, rest) → ends_in_space w ≡ true
+    → name_from bytes ≡ Ok (take (length w - 1) w, rest)
 unfolding name_from
-name_read bytes w rest e space = valued_of (list_all is_ident_byte) name_value 60 bytes w rest (Some (take (length w - 1) w)) e (name_is w (span_may (list_all is_ident_byte) 60 bytes w rest refl e) space)
+name_read bytes w rest e space =
+    valued_of (list_all is_ident_byte) name_value 60 bytes w rest (Some (take (length w - 1) w)) e (name_is w (span_may (list_all is_ident_byte) 60 bytes w rest refl e) space)
 
 -- a name, and what ends it
 abbrev pub NameText : List ℕ → List ℕ → Type 0
@@ -112,7 +117,8 @@ secs_to z text g = let k = secs_is g.0 z g.1 in (k.0, g.2 ∙ ap (λ (t : List �
 
 pub secs_reads : Reads SecsText secs_from
 unfolding secs_from
-secs_reads = reads_same (Word secs_value 32) SecsText secs_from secs_to (λ z text g. (signed_decimal z, secs_written z g.0, g.1)) (valued_reads is_secs_front secs_value 32 is_secs_word)
+secs_reads =
+    reads_same (Word secs_value 32) SecsText secs_from secs_to (λ z text g. (signed_decimal z, secs_written z g.0, g.1)) (valued_reads is_secs_front secs_value 32 is_secs_word)
 
 pub secs_have : HasText SecsText
 secs_have = let h = word_has is_secs_front secs_value 32 is_secs_word in (h.0, h.1, h.2, secs_to h.0 h.1 h.3)
@@ -131,7 +137,8 @@ Zone = Then (Passing is_sign 1) Digits
 pub nothing_has : {Z : Type 0} (z : Z) → HasText (Nothing z)
 nothing_has z = (z, [], tt, (refl, refl))
 
-pub has_then : {X Z : Type 0} (first : X → List ℕ → Type 0) (second : X → Z → List ℕ → Type 0) → HasText first → ((x : X) → HasText (second x)) → HasText (Then first second)
+pub has_then : {X Z : Type 0} (first : X → List ℕ → Type 0) (second : X → Z → List ℕ → Type 0) → HasText first → ((x : X) → HasText (second x))
+    → HasText (Then first second)
 has_then first second a bs = let b = bs a.0 in (b.0, a.1 ++ b.1, AllBytes-append a.1 b.1 a.2 b.2, (a.0, a.1, b.1, a.3, b.3, refl))
 
 sign_reads : Reads (Passing is_sign 1) (passing_at is_sign 1)
@@ -141,7 +148,8 @@ digits_read : Reads (Passing is_ascii_digit 4) (passing_at is_ascii_digit 4)
 digits_read = passing_reads is_ascii_digit 48 (omega arith) refl 4
 
 digits_have : (sign : List ℕ) → HasText (Digits sign)
-digits_have sign = has_then (Passing is_ascii_digit 4) (λ digits. Nothing (sign ++ digits)) (passing_has is_ascii_digit 48 (omega arith) refl 4) (λ digits. nothing_has (sign ++ digits))
+digits_have sign =
+    has_then (Passing is_ascii_digit 4) (λ digits. Nothing (sign ++ digits)) (passing_has is_ascii_digit 48 (omega arith) refl 4) (λ digits. nothing_has (sign ++ digits))
 
 pub sign_length : (bytes x rest : List ℕ) → passing_at is_sign 1 bytes ≡ Ok (x, rest) → length x ≡ 1
 sign_length bytes x rest e = (sign_reads.takes bytes x rest e).1.0
@@ -149,7 +157,8 @@ sign_length bytes x rest e = (sign_reads.takes bytes x rest e).1.0
 pub digits_length : (bytes x rest : List ℕ) → passing_at is_ascii_digit 4 bytes ≡ Ok (x, rest) → length x ≡ 4
 digits_length bytes x rest e = (digits_read.takes bytes x rest e).1.0
 
-zone_of : (sign digits : List ℕ) → length sign ≡ 1 → list_all is_sign sign ≡ true → length digits ≡ 4 → list_all is_ascii_digit digits ≡ true → is_zone (sign ++ digits) ≡ true
+zone_of : (sign digits : List ℕ) → length sign ≡ 1 → list_all is_sign sign ≡ true → length digits ≡ 4 → list_all is_ascii_digit digits ≡ true
+    → is_zone (sign ++ digits) ≡ true
 zone_of [] digits one on four all = absurd (omega arith)
 zone_of (b ∷ []) digits one on four all =
     let five : eqb (suc (length digits)) 5 ≡ true = eq-eqb (suc (length digits)) 5 (omega arith) in
@@ -188,7 +197,8 @@ zone_reads = reads_same Zone ZoneText zone_from zone_to zone_from_text
     (λ sign text g. digits_have sign))
 
 pub zone_has : HasText ZoneText
-zone_has = let h = has_then (Passing is_sign 1) Digits (passing_has is_sign 43 (omega arith) refl 1) digits_have in (h.0, h.1, h.2, zone_to h.0 h.1 h.3)
+zone_has =
+    let h = has_then (Passing is_sign 1) Digits (passing_has is_sign 43 (omega arith) refl 1) digits_have in (h.0, h.1, h.2, zone_to h.0 h.1 h.3)
 
 -- ---- all parts
 
@@ -211,7 +221,8 @@ space_fits : AllBytes (32 ∷ [])
 space_fits = (omega arith, tt)
 
 zones_have : (name email : List ℕ) (secs : ℤ) → HasText (AtZone name email secs)
-zones_have name email secs = has_then ZoneText (λ zone. Nothing (made name email secs zone)) zone_has (λ zone. nothing_has (made name email secs zone))
+zones_have name email secs =
+    has_then ZoneText (λ zone. Nothing (made name email secs zone)) zone_has (λ zone. nothing_has (made name email secs zone))
 
 times_have : (name email : List ℕ) → HasText (AtSecs name email)
 times_have name email = has_then SecsText (λ secs. AtZone name email secs) secs_have (zones_have name email)
@@ -227,12 +238,14 @@ zones_read name email secs =
     then_reads ZoneText (λ zone. Nothing (made name email secs zone)) zone_from (λ zone. nothing_at (made name email secs zone))
     zone_reads (λ zone t g. nothing_reads (made name email secs zone)) (λ zone t g. nothing_has (made name email secs zone))
 
-times_read : (name email : List ℕ) → Reads (AtSecs name email) (then_at secs_from (λ secs. then_at zone_from (λ zone. nothing_at (made name email secs zone))))
+times_read : (name email : List ℕ)
+    → Reads (AtSecs name email) (then_at secs_from (λ secs. then_at zone_from (λ zone. nothing_at (made name email secs zone))))
 times_read name email =
     then_reads SecsText (λ secs. AtZone name email secs) secs_from (λ secs. then_at zone_from (λ zone. nothing_at (made name email secs zone)))
     secs_reads (λ secs t g. zones_read name email secs) (λ secs t g. zones_have name email secs)
 
-spaces_read : (name email : List ℕ) → Reads (AtSpace name email) (then_at (literal_at (32 ∷ [])) (λ _. then_at secs_from (λ secs. then_at zone_from (λ zone. nothing_at (made name email secs zone)))))
+spaces_read : (name email : List ℕ)
+    → Reads (AtSpace name email) (then_at (literal_at (32 ∷ [])) (λ _. then_at secs_from (λ secs. then_at zone_from (λ zone. nothing_at (made name email secs zone)))))
 spaces_read name email =
     then_reads (Literal (32 ∷ [])) (λ _. AtSecs name email) (literal_at (32 ∷ [])) (λ _. then_at secs_from (λ secs. then_at zone_from (λ zone. nothing_at (made name email secs zone))))
     (literal_reads (32 ∷ []) space_fits) (λ x t g. times_read name email) (λ x t g. times_have name email)
@@ -251,7 +264,8 @@ names_read =
     (λ name. then_at (run_at is_ident_byte 62) (λ email. then_at (literal_at (32 ∷ [])) (λ _. then_at secs_from (λ secs. then_at zone_from (λ zone. nothing_at (made name email secs zone))))))
     name_reads (λ name t g. emails_read name) (λ name t g. emails_have name)
 
-regroup : (name email secs zone : List ℕ) → (name ++ 32 ∷ 60 ∷ []) ++ ((email ++ 62 ∷ []) ++ (32 ∷ [] ++ ((secs ++ 32 ∷ []) ++ (zone ++ [])))) ≡ name ++ codes " <" ++ email ++ codes "> " ++ secs ++ 32 ∷ zone
+regroup : (name email secs zone : List ℕ)
+    → (name ++ 32 ∷ 60 ∷ []) ++ ((email ++ 62 ∷ []) ++ (32 ∷ [] ++ ((secs ++ 32 ∷ []) ++ (zone ++ [])))) ≡ name ++ codes " <" ++ email ++ codes "> " ++ secs ++ 32 ∷ zone
 regroup name email secs zone = simp (append_assoc, append-nil)
 
 to_ident : (x : Ident) (text : List ℕ) → AtName x text → IsIdent x text
@@ -302,7 +316,8 @@ pub ident_reads : Reads IsIdent ident_from
 ident_reads = reads_same AtName IsIdent ident_from to_ident from_ident names_read
 
 pub ident_has : HasText IsIdent
-ident_has = let h = has_then NameText (λ name. AtEmail name) ([], 32 ∷ 60 ∷ [], (omega arith, (omega arith, tt)), (refl, refl)) emails_have in (h.0, h.1, h.2, to_ident h.0 h.1 h.3)
+ident_has =
+    let h = has_then NameText (λ name. AtEmail name) ([], 32 ∷ 60 ∷ [], (omega arith, (omega arith, tt)), (refl, refl)) emails_have in (h.0, h.1, h.2, to_ident h.0 h.1 h.3)
 
 -- an ident, as it stands
 pub ident_text_reads : Reads (TextOf IsIdent) ident_text_from

@@ -55,9 +55,11 @@ feedless None front back b x v e = absurd cc
 feedless (Some q) [] back b x v e =
     let none : with_shown (shown q b) (value_behind (behind q b) back) ≡ None = ap (λ (o : Option Quotes). with_shown (shown q b) (value_behind o back)) (no_line_feed q b e) in
     absurd cc
-feedless (Some q) (c ∷ front) back b x v e = at (λ y is. feedless (behind q c) front back b y is e) (value_behind (behind q c) (front ++ b ∷ back)) refl v
+feedless (Some q) (c ∷ front) back b x v e =
+    at (λ y is. feedless (behind q c) front back b y is e) (value_behind (behind q c) (front ++ b ∷ back)) refl v
   where
-    at : ((y : List ℕ) → value_behind (behind q c) (front ++ b ∷ back) ≡ Some y → ⊥) → (r : Option (List ℕ)) → value_behind (behind q c) (front ++ b ∷ back) ≡ r → with_shown (shown q c) r ≡ Some x → ⊥
+    at : ((y : List ℕ) → value_behind (behind q c) (front ++ b ∷ back) ≡ Some y → ⊥) → (r : Option (List ℕ))
+        → value_behind (behind q c) (front ++ b ∷ back) ≡ r → with_shown (shown q c) r ≡ Some x → ⊥
     at later None is v = absurd cc
     at later (Some y) is v = later y is
 
@@ -68,7 +70,8 @@ closing Closed = ([], [], tt, refl)
 closing Escaped = (39 ∷ [], 39 ∷ 39 ∷ 39 ∷ [], (omega arith, (omega arith, (omega arith, tt))), refl)
 closing Written = (39 ∷ [], 39 ∷ 39 ∷ [], (omega arith, (omega arith, tt)), refl)
 
-front_ends : (o : Option Quotes) (front : List ℕ) → is_some (behind_all o front) ≡ true → (x : List ℕ) × (rest : List ℕ) × AllBytes rest × (value_behind o (front ++ rest) ≡ Some x)
+front_ends : (o : Option Quotes) (front : List ℕ) → is_some (behind_all o front) ≡ true
+    → (x : List ℕ) × (rest : List ℕ) × AllBytes rest × (value_behind o (front ++ rest) ≡ Some x)
 front_ends None front m = absurd cc
 front_ends (Some q) [] m = closing q
 front_ends (Some q) (b ∷ front) m =
@@ -79,7 +82,8 @@ is_quoted_word : IsWord may_be_quoted quoted_value 10
 is_quoted_word = record {
   stop_fits = omega arith;
   starts = refl;
-  fronts = λ front back b x v. (front_on (Some Inside) (front ++ b ∷ []) back x (ap quoted_value (append_assoc front (b ∷ []) back) ∙ v), feedless (Some Inside) front back b x v);
+  fronts =
+      λ front back b x v. (front_on (Some Inside) (front ++ b ∷ []) back x (ap quoted_value (append_assoc front (b ∷ []) back) ∙ v), feedless (Some Inside) front back b x v);
   ends = λ front m. front_ends (Some Inside) front m;
 }
 
@@ -107,7 +111,8 @@ spelled Escaped [] x v = absurd cc
 spelled Written [] x v = absurd cc
 spelled Inside (b ∷ bs) x v = at (λ p y e. spelled p bs y e) (eqb b 39) (is_ident_byte b) refl refl v
   where
-    at : ((p : Quotes) (y : List ℕ) → value_behind (Some p) bs ≡ Some y → Spelled p bs y) → (t m : Bool) → eqb b 39 ≡ t → is_ident_byte b ≡ m → with_shown (cond t [] (b ∷ [])) (value_behind (cond t (Some Closed) (cond m (Some Inside) None)) bs) ≡ Some x → Spelled Inside (b ∷ bs) x
+    at : ((p : Quotes) (y : List ℕ) → value_behind (Some p) bs ≡ Some y → Spelled p bs y) → (t m : Bool) → eqb b 39 ≡ t → is_ident_byte b ≡ m
+        → with_shown (cond t [] (b ∷ [])) (value_behind (cond t (Some Closed) (cond m (Some Inside) None)) bs) ≡ Some x → Spelled Inside (b ∷ bs) x
     at later true m is m-is v =
         let k = some_shown [] (value_behind (Some Closed) bs) x v in
         let s = later Closed k.0 k.1 in
@@ -123,7 +128,8 @@ spelled Inside (b ∷ bs) x v = at (λ p y e. spelled p bs y e) (eqb b 39) (is_i
     at later false false is m-is v = let k = some_shown (b ∷ []) None x v in let n = k.1 in absurd cc
 spelled Closed (b ∷ bs) x v = at (λ p y e. spelled p bs y e) (eqb b 92) refl v
   where
-    at : ((p : Quotes) (y : List ℕ) → value_behind (Some p) bs ≡ Some y → Spelled p bs y) → (t : Bool) → eqb b 92 ≡ t → with_shown [] (value_behind (cond t (Some Escaped) None) bs) ≡ Some x → Spelled Closed (b ∷ bs) x
+    at : ((p : Quotes) (y : List ℕ) → value_behind (Some p) bs ≡ Some y → Spelled p bs y) → (t : Bool) → eqb b 92 ≡ t
+        → with_shown [] (value_behind (cond t (Some Escaped) None) bs) ≡ Some x → Spelled Closed (b ∷ bs) x
     at later true is v =
         let k = some_shown [] (value_behind (Some Escaped) bs) x v in
         let s = later Escaped k.0 k.1 in
@@ -133,7 +139,8 @@ spelled Closed (b ∷ bs) x v = at (λ p y e. spelled p bs y e) (eqb b 92) refl 
     at later false is v = let k = some_shown [] None x v in let n = k.1 in absurd cc
 spelled Escaped (b ∷ bs) x v = at (λ p y e. spelled p bs y e) (eqb b 39) refl v
   where
-    at : ((p : Quotes) (y : List ℕ) → value_behind (Some p) bs ≡ Some y → Spelled p bs y) → (t : Bool) → eqb b 39 ≡ t → with_shown [] (value_behind (cond t (Some Written) None) bs) ≡ Some x → Spelled Escaped (b ∷ bs) x
+    at : ((p : Quotes) (y : List ℕ) → value_behind (Some p) bs ≡ Some y → Spelled p bs y) → (t : Bool) → eqb b 39 ≡ t
+        → with_shown [] (value_behind (cond t (Some Written) None) bs) ≡ Some x → Spelled Escaped (b ∷ bs) x
     at later true is v =
         let k = some_shown [] (value_behind (Some Written) bs) x v in
         let s = later Written k.0 k.1 in
@@ -143,7 +150,8 @@ spelled Escaped (b ∷ bs) x v = at (λ p y e. spelled p bs y e) (eqb b 39) refl
     at later false is v = let k = some_shown [] None x v in let n = k.1 in absurd cc
 spelled Written (b ∷ bs) x v = at (λ p y e. spelled p bs y e) (eqb b 39) refl v
   where
-    at : ((p : Quotes) (y : List ℕ) → value_behind (Some p) bs ≡ Some y → Spelled p bs y) → (t : Bool) → eqb b 39 ≡ t → with_shown (b ∷ []) (value_behind (cond t (Some Inside) None) bs) ≡ Some x → Spelled Written (b ∷ bs) x
+    at : ((p : Quotes) (y : List ℕ) → value_behind (Some p) bs ≡ Some y → Spelled p bs y) → (t : Bool) → eqb b 39 ≡ t
+        → with_shown (b ∷ []) (value_behind (cond t (Some Inside) None) bs) ≡ Some x → Spelled Written (b ∷ bs) x
     at later true is v =
         let k = some_shown (b ∷ []) (value_behind (Some Inside) bs) x v in
         let s = later Inside k.0 k.1 in
@@ -156,7 +164,8 @@ unspelled : (x : List ℕ) → list_all is_ident_byte x ≡ true → quoted_valu
 unspelled [] all = refl
 unspelled (b ∷ x) all = at (unspelled x (and_true (is_ident_byte b) (list_all is_ident_byte x) all).1) (eqb b 39) refl
   where
-    at : quoted_value (quoted x ++ 39 ∷ []) ≡ Some x → (t : Bool) → eqb b 39 ≡ t → quoted_value ((cond t (39 ∷ 92 ∷ 39 ∷ 39 ∷ []) (b ∷ []) ++ quoted x) ++ 39 ∷ []) ≡ Some (b ∷ x)
+    at : quoted_value (quoted x ++ 39 ∷ []) ≡ Some x → (t : Bool) → eqb b 39 ≡ t
+        → quoted_value ((cond t (39 ∷ 92 ∷ 39 ∷ 39 ∷ []) (b ∷ []) ++ quoted x) ++ 39 ∷ []) ≡ Some (b ∷ x)
     at rest true is =
         let b-is = eqb-true b 39 is in
         ap (λ (r : Option (List ℕ)). with_shown [] (with_shown [] (with_shown [] (with_shown (39 ∷ []) r)))) rest ∙ ap (λ (c : ℕ). Some (c ∷ x)) (sym b-is)
@@ -259,7 +268,8 @@ abbrev name_at : List ℕ → Result Ident ℕ
 name_at = then_all quoted_from (λ name. email_key_at name)
 
 last_has : (name email : List ℕ) (secs : ℤ) (zone : List ℕ) → HasText (AtLast name email secs zone)
-last_has name email secs zone = has_then (Literal last) (λ _. Nothing (made name email secs zone)) (literal_has last last_fits) (λ _. nothing_has (made name email secs zone))
+last_has name email secs zone =
+    has_then (Literal last) (λ _. Nothing (made name email secs zone)) (literal_has last last_fits) (λ _. nothing_has (made name email secs zone))
 
 zones_have : (name email : List ℕ) (secs : ℤ) → HasText (AtZone name email secs)
 zones_have name email secs = has_then ZoneText (λ zone. AtLast name email secs zone) zone_has (last_has name email secs)
@@ -285,26 +295,33 @@ last_reads name email secs zone =
     (literal_reads last last_fits) (λ x t g. end_with (made name email secs zone)) (λ x t g. nothing_has (made name email secs zone))
 
 zones_read : (name email : List ℕ) (secs : ℤ) → ReadsAll (AtZone name email secs) (zone_at name email secs)
-zones_read name email secs = then_reads_all ZoneText (λ zone. AtLast name email secs zone) zone_from (λ zone. last_at name email secs zone) zone_reads (λ zone t g. last_reads name email secs zone) (λ zone t g. last_has name email secs zone)
+zones_read name email secs =
+    then_reads_all ZoneText (λ zone. AtLast name email secs zone) zone_from (λ zone. last_at name email secs zone) zone_reads (λ zone t g. last_reads name email secs zone) (λ zone t g. last_has name email secs zone)
 
 times_read : (name email : List ℕ) → ReadsAll (AtSecs name email) (secs_at name email)
-times_read name email = then_reads_all SecsText (λ secs. AtZone name email secs) secs_from (λ secs. zone_at name email secs) secs_reads (λ secs t g. zones_read name email secs) (λ secs t g. zones_have name email secs)
+times_read name email =
+    then_reads_all SecsText (λ secs. AtZone name email secs) secs_from (λ secs. zone_at name email secs) secs_reads (λ secs t g. zones_read name email secs) (λ secs t g. zones_have name email secs)
 
 dates_read : (name email : List ℕ) → ReadsAll (AtDate name email) (date_at name email)
-dates_read name email = then_reads_all (Literal date_key) (λ _. AtSecs name email) (literal_at date_key) (λ _. secs_at name email) (literal_reads date_key date_fits) (λ x t g. times_read name email) (λ x t g. times_have name email)
+dates_read name email =
+    then_reads_all (Literal date_key) (λ _. AtSecs name email) (literal_at date_key) (λ _. secs_at name email) (literal_reads date_key date_fits) (λ x t g. times_read name email) (λ x t g. times_have name email)
 
 emails_read : (name : List ℕ) → ReadsAll (AtEmail name) (email_at name)
-emails_read name = then_reads_all QuotedText (λ email. AtDate name email) quoted_from (λ email. date_at name email) quoted_reads (λ email t g. dates_read name email) (λ email t g. dates_have name email)
+emails_read name =
+    then_reads_all QuotedText (λ email. AtDate name email) quoted_from (λ email. date_at name email) quoted_reads (λ email t g. dates_read name email) (λ email t g. dates_have name email)
 
 email_keys_read : (name : List ℕ) → ReadsAll (AtEmailKey name) (email_key_at name)
-email_keys_read name = then_reads_all (Literal email_key) (λ _. AtEmail name) (literal_at email_key) (λ _. email_at name) (literal_reads email_key email_fits) (λ x t g. emails_read name) (λ x t g. emails_have name)
+email_keys_read name =
+    then_reads_all (Literal email_key) (λ _. AtEmail name) (literal_at email_key) (λ _. email_at name) (literal_reads email_key email_fits) (λ x t g. emails_read name) (λ x t g. emails_have name)
 
 names_read : ReadsAll AtName name_at
-names_read = then_reads_all QuotedText (λ name. AtEmailKey name) quoted_from (λ name. email_key_at name) quoted_reads (λ name t g. email_keys_read name) (λ name t g. email_keys_have name)
+names_read =
+    then_reads_all QuotedText (λ name. AtEmailKey name) quoted_from (λ name. email_key_at name) quoted_reads (λ name t g. email_keys_read name) (λ name t g. email_keys_have name)
 
 name_keys_read : ReadsAll AtNameKey script_from
 unfolding script_from
-name_keys_read = then_reads_all (Literal name_key) (λ _. AtName) (literal_at name_key) (λ _. name_at) (literal_reads name_key name_fits) (λ x t g. names_read) (λ x t g. names_have)
+name_keys_read =
+    then_reads_all (Literal name_key) (λ _. AtName) (literal_at name_key) (λ _. name_at) (literal_reads name_key name_fits) (λ x t g. names_read) (λ x t g. names_have)
 
 regroup : (name email secs zone : List ℕ)
     → name_key ++ (quoted_line name ++ (email_key ++ (quoted_line email ++ (date_key ++ ((secs ++ 32 ∷ []) ++ (zone ++ (last ++ [])))))))
@@ -366,7 +383,8 @@ last_of [] b = refl
 last_of (x ∷ seen) b = last_of seen b
 
 -- where one stands behind the last byte of a front
-pub front_behind : (q : Quotes) (front seen : List ℕ) (b : ℕ) → behind_all (Some Inside) seen ≡ Some q → front ≡ seen ++ b ∷ [] → behind_all (Some Inside) front ≡ behind q (get_or front (length front - 1) 0)
+pub front_behind : (q : Quotes) (front seen : List ℕ) (b : ℕ) → behind_all (Some Inside) seen ≡ Some q → front ≡ seen ++ b ∷ []
+    → behind_all (Some Inside) front ≡ behind q (get_or front (length front - 1) 0)
 front_behind q front seen b s e =
     let len : length front - 1 ≡ length seen = omega (arith, ap length e, length-append seen (b ∷ [])) in
     let last : get_or front (length front - 1) 0 ≡ b = ap (λ (n : ℕ). get_or front n 0) len ∙ ap (λ (f : List ℕ). get_or f (length seen) 0) e ∙ last_of seen b in
@@ -380,7 +398,8 @@ with_shown-more : (a b : List ℕ) (o : Option (List ℕ)) → with_shown a (wit
 with_shown-more a b None = refl
 with_shown-more a b (Some x) = ap (λ (t : List ℕ). Some t) (sym (append_assoc a b x))
 
-pub unquoting_more : (total : Option (List ℕ)) (value w : List ℕ) (q next : Quotes) (i : ℕ) → i < length w → Some next ≡ behind q (get_or w i 0) → Unquoting total value q (drop i w)
+pub unquoting_more : (total : Option (List ℕ)) (value w : List ℕ) (q next : Quotes) (i : ℕ) → i < length w → Some next ≡ behind q (get_or w i 0)
+    → Unquoting total value q (drop i w)
     → Unquoting total (value ++ shown q (get_or w i 0)) next (drop (i + 1) w)
 unquoting_more total value w q next i lt is u = record {
   same =

@@ -42,7 +42,8 @@ value_le front back b =
     let cut : take (length (front ++ b ∷ [])) (front ++ b ∷ back) ≡ front ++ b ∷ [] = ap (take (length (front ++ b ∷ []))) (sym (append_assoc front (b ∷ []) back)) ∙ take_at (front ++ b ∷ []) back (length (front ++ b ∷ [])) refl in
     subst (λ (t : List ℕ). digits_value 10 t ≤ digits_value 10 (front ++ b ∷ back)) cut (digits_value-take-le 10 (front ++ b ∷ back) (length (front ++ b ∷ [])) (omega arith))
 
-within_front : (most : ℕ) (front back : List ℕ) (b : ℕ) → is_decimal_front (front ++ b ∷ back) ≡ true → leb (digits_value 10 (front ++ b ∷ back)) most ≡ true
+within_front : (most : ℕ) (front back : List ℕ) (b : ℕ) → is_decimal_front (front ++ b ∷ back) ≡ true
+    → leb (digits_value 10 (front ++ b ∷ back)) most ≡ true
     → (is_decimal_front (front ++ b ∷ []) ≡ true) × (leb (digits_value 10 (front ++ b ∷ [])) most ≡ true) × (is_ascii_digit b ≡ true)
 within_front most front back b digits fits =
     let k = decimal_front front back b digits in
@@ -99,8 +100,10 @@ secs_ends (b ∷ c ∷ bs) m =
     let k = at (eqb b 45) in
     (k.0, [], tt, ap secs_value (append-nil w) ∙ value_of_front w k.0 m k.1)
   where
-    at : (t : Bool) → (x : ℤ) × (cond t (cond (eqb (suc (length bs)) 0) None (Some (negsuc (digits_value 10 (c ∷ bs) - 1)))) (Some (pos (digits_value 10 (b ∷ c ∷ bs)))) ≡ Some x)
-    at true = let some : eqb (suc (length bs)) 0 ≡ false = ne_eqb (suc (length bs)) 0 (λ e. absurd (omega arith)) in (negsuc (digits_value 10 (c ∷ bs) - 1), rw some refl)
+    at : (t : Bool)
+        → (x : ℤ) × (cond t (cond (eqb (suc (length bs)) 0) None (Some (negsuc (digits_value 10 (c ∷ bs) - 1)))) (Some (pos (digits_value 10 (b ∷ c ∷ bs)))) ≡ Some x)
+    at true =
+        let some : eqb (suc (length bs)) 0 ≡ false = ne_eqb (suc (length bs)) 0 (λ e. absurd (omega arith)) in (negsuc (digits_value 10 (c ∷ bs) - 1), rw some refl)
     at false = (pos (digits_value 10 (b ∷ c ∷ bs)), refl)
 
 pub is_secs_word : IsWord is_secs_front secs_value 32
@@ -126,7 +129,8 @@ alone (b ∷ c ∷ bs) on some e =
 written : (ds : List ℕ) → is_decimal_front ds ≡ true → 0 < length ds → digits_value 10 ds < 2 ^ 64 → decimal (digits_value 10 ds) ≡ ds
 written ds on some fits = decimal-digits_value own ds (all_digits ds on) some (alone ds on some) fits
 
-not_zero : (ds : List ℕ) → is_decimal_front ds ≡ true → is_zero_first ds ≡ false → 0 < length ds → digits_value 10 ds < 2 ^ 64 → 0 < digits_value 10 ds
+not_zero : (ds : List ℕ) → is_decimal_front ds ≡ true → is_zero_first ds ≡ false → 0 < length ds → digits_value 10 ds < 2 ^ 64
+    → 0 < digits_value 10 ds
 not_zero ds on first some fits = at (digits_value 10 ds) refl
   where
     at : (n : ℕ) → digits_value 10 ds ≡ n → 0 < digits_value 10 ds
@@ -141,7 +145,8 @@ not_true true e = absurd cc
 not_true false e = refl
 
 -- the digits behind a minus sign
-pub minus_digits : (ds : List ℕ) → is_secs_front (45 ∷ ds) ≡ true → (is_decimal_front ds ≡ true) × (is_zero_first ds ≡ false) × (digits_value 10 ds ≤ 2 ^ 63)
+pub minus_digits : (ds : List ℕ) → is_secs_front (45 ∷ ds) ≡ true
+    → (is_decimal_front ds ≡ true) × (is_zero_first ds ≡ false) × (digits_value 10 ds ≤ 2 ^ 63)
 minus_digits ds on =
     let j = and_true (is_decimal_front ds && not (is_zero_first ds)) (leb (digits_value 10 ds) (2 ^ 63)) on in
     let i = and_true (is_decimal_front ds) (not (is_zero_first ds)) j.0 in
@@ -159,7 +164,8 @@ secs_is (b ∷ bs) z v =
     let k = asked (is_secs_front (b ∷ bs)) (number_of (b ∷ bs)) z v in
     at (eqb b 45) refl k.0 k.1
   where
-    minus : (n : Bool) → b ≡ 45 → is_secs_front (45 ∷ bs) ≡ true → eqb (length bs) 0 ≡ n → cond n None (Some (negsuc (digits_value 10 bs - 1))) ≡ Some z → FitsSigned w64 z × (b ∷ bs ≡ signed_decimal z)
+    minus : (n : Bool) → b ≡ 45 → is_secs_front (45 ∷ bs) ≡ true → eqb (length bs) 0 ≡ n
+        → cond n None (Some (negsuc (digits_value 10 bs - 1))) ≡ Some z → FitsSigned w64 z × (b ∷ bs ≡ signed_decimal z)
     minus true is on n-is e = absurd cc
     minus false is on n-is e =
         let some : 0 < length bs = positive (length bs) (eqb-false (length bs) 0 n-is) in
@@ -202,7 +208,8 @@ front_of (b ∷ c ∷ bs) all (inr first) =
     let other : eqb b 48 ≡ false = ne_eqb b 48 (λ e. absurd (omega arith)) in
     rw (d, other) k.1
 
-plain_value : (ds : List ℕ) → list_all is_ascii_digit ds ≡ true → 0 < length ds → (length ds ≡ 1) ⊎ (48 < get_or ds 0 0) → digits_value 10 ds < 2 ^ 63 → secs_value ds ≡ Some (pos (digits_value 10 ds))
+plain_value : (ds : List ℕ) → list_all is_ascii_digit ds ≡ true → 0 < length ds → (length ds ≡ 1) ⊎ (48 < get_or ds 0 0) → digits_value 10 ds < 2 ^ 63
+    → secs_value ds ≡ Some (pos (digits_value 10 ds))
 plain_value [] all some one fits = absurd (omega arith)
 plain_value (b ∷ bs) all some one fits =
     let digit = (and_true (is_ascii_digit b) (list_all is_ascii_digit bs) all).0 in
@@ -212,7 +219,8 @@ plain_value (b ∷ bs) all some one fits =
     (ap (λ (t : Bool). cond t (is_decimal_front bs && not (is_zero_first bs) && leb (digits_value 10 bs) (2 ^ 63)) (is_decimal_front (b ∷ bs) && leb (digits_value 10 (b ∷ bs)) (2 ^ 63 - 1))) other ∙ on)
     (ap (λ (t : Bool). cond t (cond (eqb (length bs) 0) None (Some (negsuc (digits_value 10 bs - 1)))) (Some (pos (digits_value 10 (b ∷ bs))))) other)
 
-minus_value : (ds : List ℕ) → list_all is_ascii_digit ds ≡ true → 0 < length ds → 48 < get_or ds 0 0 → digits_value 10 ds ≤ 2 ^ 63 → secs_value (45 ∷ ds) ≡ Some (negsuc (digits_value 10 ds - 1))
+minus_value : (ds : List ℕ) → list_all is_ascii_digit ds ≡ true → 0 < length ds → 48 < get_or ds 0 0 → digits_value 10 ds ≤ 2 ^ 63
+    → secs_value (45 ∷ ds) ≡ Some (negsuc (digits_value 10 ds - 1))
 minus_value [] all some first fits = absurd (omega arith)
 minus_value (b ∷ bs) all some first fits =
     let other : eqb b 48 ≡ false = ne_eqb b 48 (λ e. absurd (omega arith)) in

@@ -31,7 +31,8 @@ failed f = Err f
 fault_is : {A : Type 0} (d f : IndexFault) → failed {A = A} d ≡ failed f → d ≡ f
 fault_is d f e = cc
 
-bind_err : {A B : Type 0} (r : Result A IndexFault) (k : A → Result B IndexFault) (f : IndexFault) → (r >>= k) ≡ failed {A = B} f → (r ≡ failed {A = A} f) ⊎ ((x : A) × (r ≡ Ok x) × (k x ≡ failed {A = B} f))
+bind_err : {A B : Type 0} (r : Result A IndexFault) (k : A → Result B IndexFault) (f : IndexFault) → (r >>= k) ≡ failed {A = B} f
+    → (r ≡ failed {A = A} f) ⊎ ((x : A) × (r ≡ Ok x) × (k x ≡ failed {A = B} f))
 bind_err {A} {B} (Err d) k f e = inl (ap (failed {A = A}) (fault_is {A = B} d f e))
 bind_err (Ok x) k f e = inr (x, refl, e)
 
@@ -79,9 +80,11 @@ number_err bytes f e =
     (is_less (length bytes) 4 g.0, g.1)
 
 pub number_fails : (bytes : List ℕ) → length bytes < 4 → number_at bytes ≡ failed fault.Count
-number_fails bytes lt = ap (λ (b : Bool). cond b (Err fault.Count) (Ok (from_be_bytes w32 (take 4 bytes), drop 4 bytes))) (less_is (length bytes) 4 lt)
+number_fails bytes lt =
+    ap (λ (b : Bool). cond b (Err fault.Count) (Ok (from_be_bytes w32 (take 4 bytes), drop 4 bytes))) (less_is (length bytes) 4 lt)
 
-version_err : (bytes : List ℕ) (f : IndexFault) (v : ℕ × List ℕ) → IsBytes (drop 4 bytes) → bytes ≡ codes "DIRC" ++ drop 4 bytes → number_at (drop 4 bytes) ≡ Ok v
+version_err : (bytes : List ℕ) (f : IndexFault) (v : ℕ × List ℕ) → IsBytes (drop 4 bytes) → bytes ≡ codes "DIRC" ++ drop 4 bytes
+    → number_at (drop 4 bytes) ≡ Ok v
     → (t : Bool) → (v.0 == 2) ≡ t → cond t (number_at v.1) (Err (fault.Version v.0)) ≡ failed f → IsFirstFault bytes f
 version_err bytes f v h text e false same fails =
     let takes = number_takes (drop 4 bytes) v.0 v.1 h e in
@@ -124,12 +127,15 @@ two_err false false d x f e = cc
 
 pub whole_err : (bytes : List ℕ) (f : IndexFault) → whole_at bytes ≡ failed f → f ≡ fault.Count
 unfolding whole_at
-whole_err bytes f e = two_err (nat_lt (length bytes) 62) (nat_lt (length bytes) (size_of (flags_in bytes))) fault.Count (take (size_of (flags_in bytes)) bytes, drop (size_of (flags_in bytes)) bytes) f e
+whole_err bytes f e =
+    two_err (nat_lt (length bytes) 62) (nat_lt (length bytes) (size_of (flags_in bytes))) fault.Count (take (size_of (flags_in bytes)) bytes, drop (size_of (flags_in bytes)) bytes) f e
 
-fields_err : (n : ℕ) (m : Option Mode) (i : List ℕ) (bits : ℕ) (p nuls : List ℕ) (f : IndexFault) → entry_of n m i bits p nuls ≡ failed f → f ≡ fault.Name n
+fields_err : (n : ℕ) (m : Option Mode) (i : List ℕ) (bits : ℕ) (p nuls : List ℕ) (f : IndexFault) → entry_of n m i bits p nuls ≡ failed f
+    → f ≡ fault.Name n
 unfolding entry_of
 fields_err n None i bits p nuls f e = cc
-fields_err n (Some mode) i bits p nuls f e = (test_err ((bits / 16384 % 2 == 0) && (are_zero nuls && is_path p)) (record { path = p; stage = bits / 4096 % 4; mode = mode; id = i }) (fault.Name n) f e).1
+fields_err n (Some mode) i bits p nuls f e =
+    (test_err ((bits / 16384 % 2 == 0) && (are_zero nuls && is_path p)) (record { path = p; stage = bits / 4096 % 4; mode = mode; id = i }) (fault.Name n) f e).1
 
 pub in_err : (n : ℕ) (text : List ℕ) (f : IndexFault) → entry_in n text ≡ failed f → f ≡ fault.Name n
 unfolding entry_in
@@ -161,7 +167,8 @@ entry_err n bytes f e = elim (bind_err (whole_at bytes) (λ whole. entry_in n wh
       ]
 ]
 
-appended_err : (es : List IndexEntry) (e : IndexEntry) (f : IndexFault) → appended es e ≡ failed f → (f ≡ fault.Order (length es + 1)) × (may_follow es e ≡ false)
+appended_err : (es : List IndexEntry) (e : IndexEntry) (f : IndexFault) → appended es e ≡ failed f
+    → (f ≡ fault.Order (length es + 1)) × (may_follow es e ≡ false)
 unfolding appended
 appended_err es e f h = let t = test_err (may_follow es e) (es ++ e ∷ []) (fault.Order (length es + 1)) f h in (t.1, t.0)
 
@@ -180,12 +187,15 @@ record FailsAtRow (n : ℕ) (es : List IndexEntry) (bytes : List ℕ) (f : Index
 
 fails_at_once : (n : ℕ) (es : List IndexEntry) (bytes : List ℕ) (f : IndexFault) → IsBytes bytes → IsInOrder es
     → (entry_at (length es + 1) bytes ≡ failed f) ⊎ ((x : IndexEntry × List ℕ) × (entry_at (length es + 1) bytes ≡ Ok x) × (appended es x.0 ≡ failed f)) → FailsAtRow (suc n) es bytes f
-fails_at_once n es bytes f h o reason = record { rows = []; left = bytes; text = refl; are_rows = tt; more = omega arith; before = es; entries = sym (append-nil es); in_order = o; left_bytes = h; why = reason }
+fails_at_once n es bytes f h o reason =
+    record { rows = []; left = bytes; text = refl; are_rows = tt; more = omega arith; before = es; entries = sym (append-nil es); in_order = o; left_bytes = h; why = reason }
 
-entries_err : (n : ℕ) (es : List IndexEntry) (bytes : List ℕ) (f : IndexFault) → IsBytes bytes → IsInOrder es → entries_at n es bytes ≡ failed f → FailsAtRow n es bytes f
+entries_err : (n : ℕ) (es : List IndexEntry) (bytes : List ℕ) (f : IndexFault) → IsBytes bytes → IsInOrder es → entries_at n es bytes ≡ failed f
+    → FailsAtRow n es bytes f
 unfolding entries_at
 entries_err zero es bytes f h o e = absurd (not_both {A = List IndexEntry × List ℕ} (Ok (es, bytes)) (es, bytes) f refl e)
-entries_err (suc n) es bytes f h o e = elim (bind_err (entry_at (length es + 1) bytes) (λ entry. appended es entry.0 >>= λ more. entries_at n more entry.1) f e) [
+entries_err (suc n) es bytes f h o e =
+    elim (bind_err (entry_at (length es + 1) bytes) (λ entry. appended es entry.0 >>= λ more. entries_at n more entry.1) f e) [
   | inl fails ↦ fails_at_once n es bytes f h o (inl fails)
   | inr x ↦ elim (bind_err (appended es x.0.0) (λ more. entries_at n more x.0.1) f x.2) [
     | inl fails ↦ fails_at_once n es bytes f h o (inr (x.0, x.1, fails))
@@ -197,11 +207,14 @@ entries_err (suc n) es bytes f h o e = elim (bind_err (entry_at (length es + 1) 
         record {
           rows = (row.stat, x.0.0) ∷ r.rows;
           left = r.left;
-          text = row.text ∙ ap (λ (t : List ℕ). row_text (row.stat, x.0.0) ++ t) r.text ∙ sym (append_assoc (row_text (row.stat, x.0.0)) (flat_map row_text r.rows) r.left);
+          text =
+              row.text ∙ ap (λ (t : List ℕ). row_text (row.stat, x.0.0) ++ t) r.text
+              ∙ sym (append_assoc (row_text (row.stat, x.0.0)) (flat_map row_text r.rows) r.left);
           are_rows = (row.is_row, r.are_rows);
           more = omega (arith, r.more);
           before = r.before;
-          entries = r.entries ∙ ap (λ (t : List IndexEntry). t ++ entries_of r.rows) (sym follows.1) ∙ append_assoc es (x.0.0 ∷ []) (entries_of r.rows);
+          entries =
+              r.entries ∙ ap (λ (t : List IndexEntry). t ++ entries_of r.rows) (sym follows.1) ∙ append_assoc es (x.0.0 ∷ []) (entries_of r.rows);
           in_order = r.in_order;
           left_bytes = r.left_bytes;
           why = r.why;
@@ -212,11 +225,13 @@ entries_err (suc n) es bytes f h o e = elim (bind_err (entry_at (length es + 1) 
 false_is_not : (b : Bool) → b ≡ false → b ≡ true → ⊥
 false_is_not b p q = cc
 
-pub map_push : (rows : List (Stat × IndexEntry)) (r : Stat × IndexEntry) → map (λ (r : Stat × IndexEntry). r.1) (rows ++ r ∷ []) ≡ entries_of rows ++ r.1 ∷ []
+pub map_push : (rows : List (Stat × IndexEntry)) (r : Stat × IndexEntry)
+    → map (λ (r : Stat × IndexEntry). r.1) (rows ++ r ∷ []) ≡ entries_of rows ++ r.1 ∷ []
 map_push [] r = refl
 map_push (s ∷ rows) r = ap (λ (x : List IndexEntry). s.1 ∷ x) (map_push rows r)
 
-row_fault : (count : ℕ) (bytes rest : List ℕ) (f : IndexFault) → bytes ≡ header_text count ++ rest → count < 2 ^ 32 → FailsAtRow count [] rest f → IsFirstFault bytes f
+row_fault : (count : ℕ) (bytes rest : List ℕ) (f : IndexFault) → bytes ≡ header_text count ++ rest → count < 2 ^ 32 → FailsAtRow count [] rest f
+    → IsFirstFault bytes f
 row_fault count bytes rest f header few r =
     let n : length r.before ≡ length r.rows = ap length r.entries ∙ length-map r.rows (λ (r : Stat × IndexEntry). r.1) in
     let number : length r.before + 1 ≡ length r.rows + 1 = omega arith in
@@ -224,7 +239,8 @@ row_fault count bytes rest f header few r =
     let P : IndexFault → Type 0 = λ g. IsFirstFault bytes g in
     let at : StandsAtRow bytes (length r.before + 1) r.rows r.left = record {
       count = count;
-      stands = record { text = header ∙ ap (λ (x : List ℕ). header_text count ++ x) r.text; few = few; are_rows = r.are_rows; in_order = subst O r.entries r.in_order };
+      stands =
+          record { text = header ∙ ap (λ (x : List ℕ). header_text count ++ x) r.text; few = few; are_rows = r.are_rows; in_order = subst O r.entries r.in_order };
       more = r.more;
       number = number;
     } in
@@ -274,12 +290,14 @@ sides : (n : ℕ) → (n ≡ 20 → ⊥) → (n < 20) ⊎ (20 < n)
 sides n h = elim (cases_lt n 20) [ inl lt ↦ inl lt | inr le ↦ inr (omega arith) ]
 
 abbrev ExtensionFault : List ℕ → IndexFault → Type 0
-ExtensionFault left f = ((length left < 28) × (f ≡ fault.Count)) ⊎ (((28 ≤ length left) × (IsCapital (slice_index left 0) → ⊥) × (f ≡ fault.Extension (take 4 left)))
+ExtensionFault left f =
+    ((length left < 28) × (f ≡ fault.Count)) ⊎ (((28 ≤ length left) × (IsCapital (slice_index left 0) → ⊥) × (f ≡ fault.Extension (take 4 left)))
     ⊎ (IsCapital (slice_index left 0) × (length left < 28 + size_in left) × (f ≡ fault.Count)))
 
 extension_err : (left : List ℕ) (f : IndexFault) → extension_at left ≡ failed f → ExtensionFault left f
 unfolding extension_at
-extension_err left f e = elim (three_err (nat_lt (length left) 28) (not (is_capital (slice_index left 0))) (nat_lt (length left) (28 + size_in left)) fault.Count (fault.Extension (take 4 left)) fault.Count (drop (8 + size_in left) left) f e) [
+extension_err left f e =
+    elim (three_err (nat_lt (length left) 28) (not (is_capital (slice_index left 0))) (nat_lt (length left) (28 + size_in left)) fault.Count (fault.Extension (take 4 left)) fault.Count (drop (8 + size_in left) left) f e) [
   | inl a ↦ inl (is_less (length left) 28 a.0, a.1)
   | inr b ↦ elim b [
     | inl c ↦ inr (inl (not_less (length left) 28 c.0, not_capital (slice_index left 0) c.1, c.2))
@@ -296,7 +314,8 @@ record FailsBehind (bytes : List ℕ) (f : IndexFault) : Type 0 where
   why : extension_at left ≡ failed f
   start : length left < 20 → bytes ≡ left
 
-trailer_err_by : (n : ℕ) (bytes : List ℕ) (f : IndexFault) → IsBytes bytes → ((rest : List ℕ) → extension_at bytes ≡ Ok rest → IsBytes rest → trailer_at n rest ≡ failed f → FailsBehind rest f)
+trailer_err_by : (n : ℕ) (bytes : List ℕ) (f : IndexFault) → IsBytes bytes
+    → ((rest : List ℕ) → extension_at bytes ≡ Ok rest → IsBytes rest → trailer_at n rest ≡ failed f → FailsBehind rest f)
     → (t : Bool) → (length bytes == 20) ≡ t → cond t (Ok bytes) (extension_at bytes >>= λ rest. trailer_at n rest) ≡ failed f → FailsBehind bytes f
 trailer_err_by n bytes f h go true same e = absurd (not_both {A = List ℕ} (Ok bytes) bytes f refl e)
 trailer_err_by n bytes f h go false same e = elim (bind_err (extension_at bytes) (λ rest. trailer_at n rest) f e) [
@@ -307,7 +326,9 @@ trailer_err_by n bytes f h go false same e = elim (bind_err (extension_at bytes)
       record {
         extensions = one.extension ∷ r.extensions;
         left = r.left;
-        text = one.text ∙ ap (λ (t : List ℕ). extension_text one.extension ++ t) r.text ∙ sym (append_assoc (extension_text one.extension) (flat_map extension_text r.extensions) r.left);
+        text =
+            one.text ∙ ap (λ (t : List ℕ). extension_text one.extension ++ t) r.text
+            ∙ sym (append_assoc (extension_text one.extension) (flat_map extension_text r.extensions) r.left);
         are_extensions = (one.is_extension, r.are_extensions);
         other = r.other;
         why = r.why;
@@ -323,7 +344,8 @@ trailer_err zero bytes f le h e =
 trailer_err (suc n) bytes f le h e =
     trailer_err_by n bytes f h (λ rest is b fails. trailer_err n rest f (omega (arith, shorter bytes rest is)) b fails) (length bytes == 20) refl e
 
-tail_fault : (bytes : List ℕ) (rows : List (Stat × IndexEntry)) (tail : List ℕ) (f : IndexFault) → Stands bytes (length rows) rows tail → FailsBehind tail f → IsFirstFault bytes f
+tail_fault : (bytes : List ℕ) (rows : List (Stat × IndexEntry)) (tail : List ℕ) (f : IndexFault) → Stands bytes (length rows) rows tail
+    → FailsBehind tail f → IsFirstFault bytes f
 tail_fault bytes rows tail f at r =
     let P : IndexFault → Type 0 = λ g. IsFirstFault bytes g in
     let S : List ℕ → Type 0 = λ t. Stands bytes (length rows) rows t in
@@ -375,7 +397,9 @@ index_err bytes f h e =
                 let O : List IndexEntry → Type 0 = λ es. IsInOrder es in
                 let number = rows.number in
                 let at : Stands bytes (length rows.rows) rows.rows b.0.1 = record {
-                  text = header.0 ∙ ap (λ (x : List ℕ). header_text a.0.0 ++ x) rows.text ∙ ap (λ (k : ℕ). header_text k ++ (flat_map row_text rows.rows ++ b.0.1)) (sym number);
+                  text =
+                      header.0 ∙ ap (λ (x : List ℕ). header_text a.0.0 ++ x) rows.text
+                      ∙ ap (λ (k : ℕ). header_text k ++ (flat_map row_text rows.rows ++ b.0.1)) (sym number);
                   few = omega (arith, number, header.1);
                   are_rows = rows.are_rows;
                   in_order = subst O rows.entries (rows.in_order tt);

@@ -31,7 +31,8 @@ head_fails bytes f e = rw e refl
 
 short_header : (rest : List ℕ) (f : IndexFault) → number_at rest ≡ failed f → header_at (codes "DIRC" ++ rest) ≡ failed f
 unfolding header_at
-short_header rest f e = ap (λ (r : Result (ℕ × List ℕ) IndexFault). r >>= λ version. cond (version.0 == 2) (number_at version.1) (Err (fault.Version version.0))) e
+short_header rest f e =
+    ap (λ (r : Result (ℕ × List ℕ) IndexFault). r >>= λ version. cond (version.0 == 2) (number_at version.1) (Err (fault.Version version.0))) e
 
 magic_fails : (bytes : List ℕ) → (take 4 bytes ≡ codes "DIRC" → ⊥) → header_at bytes ≡ failed fault.Magic
 unfolding header_at
@@ -39,11 +40,13 @@ magic_fails bytes h =
     ap (λ (t : Bool). cond t (number_at (drop 4 bytes) >>= λ version. cond (version.0 == 2) (number_at version.1) (Err (fault.Version version.0))) (Err fault.Magic))
     (other_bytes (take 4 bytes) (codes "DIRC") (bytes_eq (take 4 bytes) (codes "DIRC")) refl h)
 
-version_fails : (bytes left : List ℕ) (n : ℕ) → bytes ≡ codes "DIRC" ++ (to_be_bytes w32 n ++ left) → n < 2 ^ 32 → (n ≡ 2 → ⊥) → header_at bytes ≡ failed (fault.Version n)
+version_fails : (bytes left : List ℕ) (n : ℕ) → bytes ≡ codes "DIRC" ++ (to_be_bytes w32 n ++ left) → n < 2 ^ 32 → (n ≡ 2 → ⊥)
+    → header_at bytes ≡ failed (fault.Version n)
 version_fails bytes left n text lt other =
     ap header_at text ∙ header_by (to_be_bytes w32 n ++ left) left n (number_again n left lt) ∙ ap (λ (t : Bool). cond t (number_at left) (Err (fault.Version n))) (other_test n 2 other)
 
-cut_header_fails : (bytes left : List ℕ) → bytes ≡ codes "DIRC" ++ left → (length left < 4) ⊎ ((take 4 left ≡ to_be_bytes w32 2) × (length left < 8)) → header_at bytes ≡ failed fault.Count
+cut_header_fails : (bytes left : List ℕ) → bytes ≡ codes "DIRC" ++ left → (length left < 4) ⊎ ((take 4 left ≡ to_be_bytes w32 2) × (length left < 8))
+    → header_at bytes ≡ failed fault.Count
 cut_header_fails bytes left text (inl short) = ap header_at text ∙ short_header left fault.Count (number_fails left short)
 cut_header_fails bytes left text (inr second) = elim (cases_lt (length left) 4) [
   | inl short ↦ ap header_at text ∙ short_header left fault.Count (number_fails left short)
@@ -70,23 +73,28 @@ at_row bytes n rows left at =
     ap (λ (k : ℕ). entry_at k left >>= λ entry. appended (entries_of rows) entry.0 >>= λ es. entries_at more es entry.1) len in
     (more, λ f e. rw (header, on ∙ step ∙ e) refl)
 
-no_whole_fails : (bytes : List ℕ) (r : Result (List ℕ × List ℕ) IndexFault) → whole_at bytes ≡ r → ((text rest : List ℕ) → bytes ≡ text ++ rest → IsWhole text → ⊥) → r ≡ failed fault.Count
+no_whole_fails : (bytes : List ℕ) (r : Result (List ℕ × List ℕ) IndexFault) → whole_at bytes ≡ r
+    → ((text rest : List ℕ) → bytes ≡ text ++ rest → IsWhole text → ⊥) → r ≡ failed fault.Count
 no_whole_fails bytes (Ok x) e none = let w = whole_takes bytes x.0 x.1 e in absurd (none x.0 x.1 w.parts w.whole)
 no_whole_fails bytes (Err f) e none = ap (failed {A = List ℕ × List ℕ}) (whole_err bytes f e)
 
-no_row_fails : (n : ℕ) (text : List ℕ) (r : Result IndexEntry IndexFault) → IsWhole text → IsBytes text → entry_in n text ≡ r → ((r : Stat × IndexEntry) → IsRow r → text ≡ row_text r → ⊥) → r ≡ failed (fault.Name n)
+no_row_fails : (n : ℕ) (text : List ℕ) (r : Result IndexEntry IndexFault) → IsWhole text → IsBytes text → entry_in n text ≡ r
+    → ((r : Stat × IndexEntry) → IsRow r → text ≡ row_text r → ⊥) → r ≡ failed (fault.Name n)
 no_row_fails n text (Ok x) w h e none = let t = row_taken n text x w h e in absurd (none (stat_of text, x) t.1 t.0)
 no_row_fails n text (Err f) w h e none = ap (failed {A = IndexEntry}) (in_err n text f e)
 
 cut_entry_fails : (n : ℕ) (left : List ℕ) → ((text rest : List ℕ) → left ≡ text ++ rest → IsWhole text → ⊥) → entry_at n left ≡ failed fault.Count
 unfolding entry_at
-cut_entry_fails n left none = ap (λ (r : Result (List ℕ × List ℕ) IndexFault). r >>= λ whole. entry_in n whole.0 >>= λ entry. Ok (entry, whole.1)) (no_whole_fails left (whole_at left) refl none)
+cut_entry_fails n left none =
+    ap (λ (r : Result (List ℕ × List ℕ) IndexFault). r >>= λ whole. entry_in n whole.0 >>= λ entry. Ok (entry, whole.1)) (no_whole_fails left (whole_at left) refl none)
 
-bad_entry_fails : (n : ℕ) (text left : List ℕ) → IsBytes text → IsWhole text → ((r : Stat × IndexEntry) → IsRow r → text ≡ row_text r → ⊥) → entry_at n (text ++ left) ≡ failed (fault.Name n)
+bad_entry_fails : (n : ℕ) (text left : List ℕ) → IsBytes text → IsWhole text → ((r : Stat × IndexEntry) → IsRow r → text ≡ row_text r → ⊥)
+    → entry_at n (text ++ left) ≡ failed (fault.Name n)
 unfolding entry_at
 bad_entry_fails n text left h w none = rw (whole_again text left w, no_row_fails n text (entry_in n text) w h refl none) refl
 
-order_fails : (es : List IndexEntry) (e : IndexEntry) (n : ℕ) → n ≡ length es + 1 → IsInOrder es → (IsInOrder (es ++ e ∷ []) → ⊥) → appended es e ≡ failed (fault.Order n)
+order_fails : (es : List IndexEntry) (e : IndexEntry) (n : ℕ) → n ≡ length es + 1 → IsInOrder es → (IsInOrder (es ++ e ∷ []) → ⊥)
+    → appended es e ≡ failed (fault.Order n)
 unfolding appended
 order_fails es e n number o none = by_test (may_follow es e) refl ∙ ap (λ (k : ℕ). failed {A = List IndexEntry} (fault.Order k)) (sym number)
   where
@@ -101,7 +109,8 @@ left_bytes bytes n rows left h at =
 
 -- ---- behind the rows
 
-tail_fails : (bytes : List ℕ) (rows : List (Stat × IndexEntry)) (tail : List ℕ) (f : IndexFault) → Stands bytes (length rows) rows tail → trailer_at (length tail) tail ≡ failed f → index_of bytes ≡ failed f
+tail_fails : (bytes : List ℕ) (rows : List (Stat × IndexEntry)) (tail : List ℕ) (f : IndexFault) → Stands bytes (length rows) rows tail
+    → trailer_at (length tail) tail ≡ failed f → index_of bytes ≡ failed f
 tail_fails bytes rows tail f at e =
     reads_tail rows bytes tail at.are_rows at.in_order at.few at.text
     ∙ ap (λ (r : Result (List ℕ) IndexFault). r >>= λ trailer. cond (is_trailer (take (length bytes - 20) bytes) trailer) (Ok (entries_of rows)) (Err fault.Hash)) e
@@ -121,7 +130,8 @@ short_fails left lt = rw (less_is (length left) 28 lt) refl
 
 tag_fails : (left : List ℕ) → 28 ≤ length left → (IsCapital (slice_index left 0) → ⊥) → extension_at left ≡ failed (fault.Extension (take 4 left))
 unfolding extension_at
-tag_fails left le none = rw (is_not_less (length left) 28 le, capital_fails (slice_index left 0) (not (is_capital (slice_index left 0))) refl none) refl
+tag_fails left le none =
+    rw (is_not_less (length left) 28 le, capital_fails (slice_index left 0) (not (is_capital (slice_index left 0))) refl none) refl
   where
     capital_fails : (b : ℕ) (t : Bool) → not (is_capital b) ≡ t → (IsCapital b → ⊥) → t ≡ true
     capital_fails b true e none = refl
@@ -129,19 +139,24 @@ tag_fails left le none = rw (is_not_less (length left) 28 le, capital_fails (sli
 
 content_fails : (left : List ℕ) → IsCapital (slice_index left 0) → length left < 28 + size_in left → extension_at left ≡ failed fault.Count
 unfolding extension_at
-content_fails left capital lt = by_test (nat_lt (length left) 28) (not (is_capital (slice_index left 0))) (nat_lt (length left) (28 + size_in left)) (fault.Extension (take 4 left)) (drop (8 + size_in left) left) (capital_passes (slice_index left 0) capital) (less_is (length left) (28 + size_in left) lt)
+content_fails left capital lt =
+    by_test (nat_lt (length left) 28) (not (is_capital (slice_index left 0))) (nat_lt (length left) (28 + size_in left)) (fault.Extension (take 4 left)) (drop (8 + size_in left) left) (capital_passes (slice_index left 0) capital) (less_is (length left) (28 + size_in left) lt)
   where
-    by_test : (a b c : Bool) (y : IndexFault) (v : List ℕ) → b ≡ false → c ≡ true → cond a (Err fault.Count) (cond b (Err y) (cond c (Err fault.Count) (Ok v))) ≡ failed fault.Count
+    by_test : (a b c : Bool) (y : IndexFault) (v : List ℕ) → b ≡ false → c ≡ true
+        → cond a (Err fault.Count) (cond b (Err y) (cond c (Err fault.Count) (Ok v))) ≡ failed fault.Count
     by_test true b c y v p q = refl
     by_test false b c y v p q = rw (p, q) refl
 
-behind_fails : (bytes : List ℕ) (rows : List (Stat × IndexEntry)) (extensions : List Extension) (left : List ℕ) (f : IndexFault) → StandsBehind bytes rows extensions left → 20 < length left → extension_at left ≡ failed f → index_of bytes ≡ failed f
+behind_fails : (bytes : List ℕ) (rows : List (Stat × IndexEntry)) (extensions : List Extension) (left : List ℕ) (f : IndexFault)
+    → StandsBehind bytes rows extensions left → 20 < length left → extension_at left ≡ failed f → index_of bytes ≡ failed f
 behind_fails bytes rows extensions left f at long e =
     let tail : List ℕ = flat_map extension_text extensions ++ left in
     tail_fails bytes rows tail f at.stands
     (trailer_on (length tail) (length left) extensions left at.are_extensions at.long (omega arith) (omega arith) ∙ at_once (length left) left f (omega arith) (not_twenty (length left) (inr long)) e)
 
-hash_fails : (bytes : List ℕ) (rows : List (Stat × IndexEntry)) (extensions : List Extension) (trailer : List ℕ) → StandsBehind bytes rows extensions trailer → length trailer ≡ 20 → (IsTrailer (body_text rows extensions) trailer → ⊥) → index_of bytes ≡ failed fault.Hash
+hash_fails : (bytes : List ℕ) (rows : List (Stat × IndexEntry)) (extensions : List Extension) (trailer : List ℕ)
+    → StandsBehind bytes rows extensions trailer → length trailer ≡ 20 → (IsTrailer (body_text rows extensions) trailer → ⊥)
+    → index_of bytes ≡ failed fault.Hash
 hash_fails bytes rows extensions trailer at twenty none =
     let tail : List ℕ = flat_map extension_text extensions ++ trailer in
     let text : bytes ≡ body_text rows extensions ++ trailer = body_of (length rows) rows extensions bytes (flat_map row_text rows ++ tail) tail trailer refl at.stands.text refl refl in
@@ -158,7 +173,8 @@ unfolding trailer_at
 cut_trailer zero left le other lt = rw other refl
 cut_trailer (suc n) left le other lt = rw (other, short_fails left (omega (arith, lt))) refl
 
-cut_extension : (left : List ℕ) → (length left < 28) ⊎ (IsCapital (slice_index left 0) × (length left < 28 + size_in left)) → extension_at left ≡ failed fault.Count
+cut_extension : (left : List ℕ) → (length left < 28) ⊎ (IsCapital (slice_index left 0) × (length left < 28 + size_in left))
+    → extension_at left ≡ failed fault.Count
 cut_extension left (inl short) = short_fails left short
 cut_extension left (inr long) = content_fails left long.0 long.1
 
@@ -197,7 +213,8 @@ index_fails bytes fault.Memory h w = absurd w
 
 -- ---- what a reader answered
 
-pub first_fault_is : (bytes : List ℕ) (r : Result (Vec IndexEntry) IndexFault) → IsBytes bytes → Gives (λ v. v.items) r (index_of bytes) → IfErr r (λ f. IsFirstFaultOrMemory bytes f)
+pub first_fault_is : (bytes : List ℕ) (r : Result (Vec IndexEntry) IndexFault) → IsBytes bytes → Gives (λ v. v.items) r (index_of bytes)
+    → IfErr r (λ f. IsFirstFaultOrMemory bytes f)
 first_fault_is bytes (Ok v) h given = tt
 first_fault_is bytes (Err f) h given = by_fault f given
   where

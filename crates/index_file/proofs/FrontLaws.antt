@@ -21,7 +21,8 @@ common_le (x ∷ xs) (y ∷ ys) = both_below (x == y) (common xs ys) (length xs)
 one_up : (k : ℕ) → k + 1 ≡ suc k
 one_up k = omega arith
 
-counted_by : (t : Bool) (x : ℕ × ℕ) (pairs : List (ℕ × ℕ)) (n k : ℕ) → length (take n pairs) ≡ k → length (take (cond t (1 + n) 0) (x ∷ pairs)) ≡ cond t (k + 1) 0
+counted_by : (t : Bool) (x : ℕ × ℕ) (pairs : List (ℕ × ℕ)) (n k : ℕ) → length (take n pairs) ≡ k
+    → length (take (cond t (1 + n) 0) (x ∷ pairs)) ≡ cond t (k + 1) 0
 counted_by true x pairs n k e = rw (one_more n) (ap suc e ∙ sym (one_up k))
   where
     one_more : (n : ℕ) → 1 + n ≡ suc n
@@ -46,14 +47,18 @@ past true true false r = refl
 past true false k r = refl
 past false h k r = refl
 
-either_way : (t s u l h k : Bool) (test : List ℕ → Bool) (file : List ℕ) (files : List (List ℕ)) → s && u ≡ test file → l ≡ (h && k) || list_any test files
+either_way : (t s u l h k : Bool) (test : List ℕ → Bool) (file : List ℕ) (files : List (List ℕ)) → s && u ≡ test file
+    → l ≡ (h && k) || list_any test files
     → ((t && s) && u) || l ≡ (h && k) || list_any test (cond t (file ∷ files) files)
 either_way true s u l h k test file files e f = rw (e, f) (past (test file) h k (list_any test files))
 either_way false s u l h k test file files e f = f
 
-any_step : (b : ℕ) (path : List ℕ) (files : List (List ℕ)) → list_any (λ file. is_below file (b ∷ path)) files ≡ (has_empty files && (b == 47)) || list_any (λ file. is_below file path) (behind b files)
+any_step : (b : ℕ) (path : List ℕ) (files : List (List ℕ))
+    → list_any (λ file. is_below file (b ∷ path)) files ≡ (has_empty files && (b == 47)) || list_any (λ file. is_below file path) (behind b files)
 any_step b path [] = refl
-any_step b path ([] ∷ files) = ap (λ (l : Bool). (b == 47) || l) (any_step b path files) ∙ empty_first (b == 47) (has_empty files) (list_any (λ file. is_below file path) (behind b files))
+any_step b path ([] ∷ files) =
+    ap (λ (l : Bool). (b == 47) || l) (any_step b path files)
+    ∙ empty_first (b == 47) (has_empty files) (list_any (λ file. is_below file path) (behind b files))
 any_step b path ((c ∷ file) ∷ files) =
     either_way (c == b) _ _ (list_any (λ file. is_below file (b ∷ path)) files) (has_empty files) (b == 47) (λ file. is_below file path) file (behind b files) refl (any_step b path files)
 
@@ -97,7 +102,8 @@ behind_nil b [] h = refl
 behind_nil b ([] ∷ files) h = behind_nil b files h
 behind_nil b ((c ∷ file) ∷ files) h = cc
 
-most_by : (t : Bool) (file last : List ℕ) (below : Bool) (files : List (List ℕ)) → cond t (at_most file last) below ≡ true → AllAtMost files last → AllAtMost (cond t (file ∷ files) files) last
+most_by : (t : Bool) (file last : List ℕ) (below : Bool) (files : List (List ℕ)) → cond t (at_most file last) below ≡ true → AllAtMost files last
+    → AllAtMost (cond t (file ∷ files) files) last
 most_by true file last below files p q = also (at_most file last) (list_all (λ file. at_most file last) files) p q
 most_by false file last below files p q = q
 
@@ -149,9 +155,11 @@ when_same c b x y e h = sym (ap (λ (t : Bool). cond t x y) e) ∙ h
 when_other : (c b : ℕ) (x y : Bool) → (c == b) ≡ false → cond (c == b) x y ≡ true → y ≡ true
 when_other c b x y e h = sym (ap (λ (t : Bool). cond t x y) e) ∙ h
 
-pub carried_is : (files : List (List ℕ)) (last path : List ℕ) → AllAtMost files last → at_most last path ≡ true → carried last (fronts files last) path ≡ fronts files path
+pub carried_is : (files : List (List ℕ)) (last path : List ℕ) → AllAtMost files last → at_most last path ≡ true
+    → carried last (fronts files last) path ≡ fronts files path
 carried_is files [] [] all le = refl
-carried_is files [] (b ∷ path) all le = rw (behind_nil b files all, sub_zero (suc (length path))) (ap (λ (ms : List Bool). has_empty files ∷ ms) (sym (fronts_none path)))
+carried_is files [] (b ∷ path) all le =
+    rw (behind_nil b files all, sub_zero (suc (length path))) (ap (λ (ms : List Bool). has_empty files ∷ ms) (sym (fronts_none path)))
 carried_is files (c ∷ last) [] all le = cc
 carried_is files (c ∷ last) (b ∷ path) all le =
     step_by (c == b) (common last path) (has_empty files) (fronts (behind c files) last) (fronts (behind b files) path) (length path)
@@ -181,7 +189,8 @@ behind_more [] b path = rw (same_byte b) refl
 behind_more ([] ∷ files) b path = behind_more files b path
 behind_more ((c ∷ file) ∷ files) b path = rw (behind_more files b path) (by_test (c == b))
   where
-    by_test : (t : Bool) → cond t (file ∷ (behind b files ++ path ∷ [])) (behind b files ++ path ∷ []) ≡ cond t (file ∷ behind b files) (behind b files) ++ path ∷ []
+    by_test : (t : Bool)
+        → cond t (file ∷ (behind b files ++ path ∷ [])) (behind b files ++ path ∷ []) ≡ cond t (file ∷ behind b files) (behind b files) ++ path ∷ []
     by_test true = refl
     by_test false = refl
 

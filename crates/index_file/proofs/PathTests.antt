@@ -60,10 +60,14 @@ path_passes bytes p =
     (is_some_length (length bytes) p.some) (is_short (length bytes) p.short) (is_utf8-from_IsUtf8 bytes p.text) (ap is_none p.parts_are)
 
 pub fault_fails : (bytes : List ℕ) (f : PathFault) → IsPathFaultOrMemory bytes f → (f ≡ Memory → ⊥) → is_path bytes ≡ false
-fault_fails bytes Empty h other = first_fails (not (length bytes == 0)) (nat_le (length bytes) 4095) (is_utf8 bytes) (is_none (first_bad 0 (parts bytes))) (ap (λ (n : ℕ). not (n == 0)) h)
-fault_fails bytes (TooLong n) h other = second_fails (not (length bytes == 0)) (nat_le (length bytes) 4095) (is_utf8 bytes) (is_none (first_bad 0 (parts bytes))) (is_long (length bytes) (omega (arith, h.0, h.1)))
-fault_fails bytes (NotUtf8 at) h other = third_fails (not (length bytes == 0)) (nat_le (length bytes) 4095) (is_utf8 bytes) (is_none (first_bad 0 (parts bytes))) (not_text bytes (is_utf8 bytes) refl h.2)
-fault_fails bytes (BadPart at) h other = fourth_fails (not (length bytes == 0)) (nat_le (length bytes) 4095) (is_utf8 bytes) (is_none (first_bad 0 (parts bytes))) (ap is_none h.3)
+fault_fails bytes Empty h other =
+    first_fails (not (length bytes == 0)) (nat_le (length bytes) 4095) (is_utf8 bytes) (is_none (first_bad 0 (parts bytes))) (ap (λ (n : ℕ). not (n == 0)) h)
+fault_fails bytes (TooLong n) h other =
+    second_fails (not (length bytes == 0)) (nat_le (length bytes) 4095) (is_utf8 bytes) (is_none (first_bad 0 (parts bytes))) (is_long (length bytes) (omega (arith, h.0, h.1)))
+fault_fails bytes (NotUtf8 at) h other =
+    third_fails (not (length bytes == 0)) (nat_le (length bytes) 4095) (is_utf8 bytes) (is_none (first_bad 0 (parts bytes))) (not_text bytes (is_utf8 bytes) refl h.2)
+fault_fails bytes (BadPart at) h other =
+    fourth_fails (not (length bytes == 0)) (nat_le (length bytes) 4095) (is_utf8 bytes) (is_none (first_bad 0 (parts bytes))) (ap is_none h.3)
 fault_fails bytes Memory h other = absurd (other refl)
 
 is_nothing : (o : Option ℕ) → is_none o ≡ true → o ≡ None
@@ -90,14 +94,17 @@ path_from bytes e =
 
 -- ---- the entry that fields make
 
-pub entry_good : (n : ℕ) (mode : Mode) (id : List ℕ) (flags : ℕ) (path nuls : List ℕ) → (flags / 16384 % 2 == 0) ≡ true → are_zero nuls ≡ true → is_path path ≡ true
+pub entry_good : (n : ℕ) (mode : Mode) (id : List ℕ) (flags : ℕ) (path nuls : List ℕ) → (flags / 16384 % 2 == 0) ≡ true → are_zero nuls ≡ true
+    → is_path path ≡ true
     → entry_of n (Some mode) id flags path nuls ≡ Ok (record { path = path; stage = flags / 4096 % 4; mode = mode; id = id })
 unfolding entry_of
 entry_good n mode id flags path nuls p q r = rw (p, q, r) refl
 
-pub entry_bad : (n : ℕ) (mode : Mode) (id : List ℕ) (flags : ℕ) (path nuls : List ℕ) → is_path path ≡ false → entry_of n (Some mode) id flags path nuls ≡ Err (Name n)
+pub entry_bad : (n : ℕ) (mode : Mode) (id : List ℕ) (flags : ℕ) (path nuls : List ℕ) → is_path path ≡ false
+    → entry_of n (Some mode) id flags path nuls ≡ Err (Name n)
 unfolding entry_of
-entry_bad n mode id flags path nuls p = ap (λ (b : Bool). cond b (Ok (record { path = path; stage = flags / 4096 % 4; mode = mode; id = id })) (Err (Name n))) (no_path (flags / 16384 % 2 == 0) (are_zero nuls) (is_path path) p)
+entry_bad n mode id flags path nuls p =
+    ap (λ (b : Bool). cond b (Ok (record { path = path; stage = flags / 4096 % 4; mode = mode; id = id })) (Err (Name n))) (no_path (flags / 16384 % 2 == 0) (are_zero nuls) (is_path path) p)
   where
     no_path : (a b c : Bool) → c ≡ false → a && (b && c) ≡ false
     no_path false b c e = refl
@@ -111,7 +118,8 @@ no_memory (NotUtf8 at) = inr (λ e. cc)
 no_memory (BadPart at) = inr (λ e. cc)
 no_memory Memory = inl refl
 
-pub entry_fails : (n : ℕ) (mode : Mode) (id : List ℕ) (flags : ℕ) (path nuls : List ℕ) (f : PathFault) (r : IndexFault) → IsPathFaultOrMemory path f → (f ≡ Memory → r ≡ out_of_memory) → ((f ≡ Memory → ⊥) → r ≡ Name n)
+pub entry_fails : (n : ℕ) (mode : Mode) (id : List ℕ) (flags : ℕ) (path nuls : List ℕ) (f : PathFault) (r : IndexFault) → IsPathFaultOrMemory path f
+    → (f ≡ Memory → r ≡ out_of_memory) → ((f ≡ Memory → ⊥) → r ≡ Name n)
     → Fails r (entry_of n (Some mode) id flags path nuls)
 entry_fails n mode id flags path nuls f r h p q = elim (no_memory f) [
   | inl e ↦ rw (p e) tt

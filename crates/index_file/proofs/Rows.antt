@@ -45,7 +45,8 @@ flags_front n bytes le =
 flags_append : (text rest : List ℕ) → 62 ≤ length text → flags_in (text ++ rest) ≡ flags_in text
 flags_append text rest le = sym (flags_front (length text) (text ++ rest) le) ∙ ap flags_in (take_at text rest (length text) refl)
 
-two_guards : (a b : Bool) (x y : List ℕ × List ℕ) (f : IndexFault) → cond a (Err f) (cond b (Err f) (Ok x)) ≡ Ok y → (a ≡ false) × (b ≡ false) × (x ≡ y)
+two_guards : (a b : Bool) (x y : List ℕ × List ℕ) (f : IndexFault) → cond a (Err f) (cond b (Err f) (Ok x)) ≡ Ok y
+    → (a ≡ false) × (b ≡ false) × (x ≡ y)
 two_guards false false x y f e = (refl, refl, cc)
 two_guards true b x y f e = cc
 two_guards false true x y f e = cc
@@ -85,7 +86,8 @@ mode_by : (m : ℕ) (mode : Mode) (a b c d : Bool) → (m == 33188) ≡ a → (m
 mode_by m mode true b c d p q r s e = let is : File ≡ mode = cc in (eqb-true m 33188 p ∙ ap mode_number is, not_so File mode is (λ h. cc))
 mode_by m mode false true c d p q r s e = let is : Exec ≡ mode = cc in (eqb-true m 33261 q ∙ ap mode_number is, not_so Exec mode is (λ h. cc))
 mode_by m mode false false true d p q r s e = let is : Link ≡ mode = cc in (eqb-true m 40960 r ∙ ap mode_number is, not_so Link mode is (λ h. cc))
-mode_by m mode false false false true p q r s e = let is : Gitlink ≡ mode = cc in (eqb-true m 57344 s ∙ ap mode_number is, not_so Gitlink mode is (λ h. cc))
+mode_by m mode false false false true p q r s e =
+    let is : Gitlink ≡ mode = cc in (eqb-true m 57344 s ∙ ap mode_number is, not_so Gitlink mode is (λ h. cc))
 mode_by m mode false false false false p q r s e = cc
 
 mode_from : (m : ℕ) (mode : Mode) → mode_of m ≡ Some mode → (m ≡ mode_number mode) × (mode ≡ Folder → ⊥)
@@ -108,7 +110,8 @@ mode_small Folder = omega arith
 flags_back : (f len : ℕ) → f / 16384 % 2 ≡ 0 → len ≡ f % 4096 → f / 32768 * 32768 + f / 4096 % 4 * 4096 + len ≡ f
 flags_back f len e l = omega arith
 
-flag_parts : (a s len : ℕ) → a < 2 → s < 4 → len ≤ 4095 → ((a * 32768 + s * 4096 + len) / 16384 % 2 ≡ 0) × ((a * 32768 + s * 4096 + len) / 4096 % 4 ≡ s) × ((a * 32768 + s * 4096 + len) % 4096 ≡ len) × (a * 32768 + s * 4096 + len < 2 ^ 16)
+flag_parts : (a s len : ℕ) → a < 2 → s < 4 → len ≤ 4095
+    → ((a * 32768 + s * 4096 + len) / 16384 % 2 ≡ 0) × ((a * 32768 + s * 4096 + len) / 4096 % 4 ≡ s) × ((a * 32768 + s * 4096 + len) % 4096 ≡ len) × (a * 32768 + s * 4096 + len < 2 ^ 16)
 flag_parts a s len p q r = (omega arith, omega arith, omega arith, omega arith)
 
 both : (a b : Bool) → a && b ≡ true → (a ≡ true) × (b ≡ true)
@@ -140,7 +143,8 @@ tested : (t : Bool) (x y : IndexEntry) (f : IndexFault) → cond t (Ok x) (Err f
 tested true x y f e = (refl, cc)
 tested false x y f e = cc
 
-good_from : (n : ℕ) (m : Option Mode) (i : List ℕ) (bits : ℕ) (p nuls : List ℕ) (e : IndexEntry) → entry_of n m i bits p nuls ≡ Ok e → Good m i bits p nuls e
+good_from : (n : ℕ) (m : Option Mode) (i : List ℕ) (bits : ℕ) (p nuls : List ℕ) (e : IndexEntry) → entry_of n m i bits p nuls ≡ Ok e
+    → Good m i bits p nuls e
 unfolding entry_of
 good_from n None i bits p nuls e h = cc
 good_from n (Some mode) i bits p nuls e h =
@@ -159,7 +163,8 @@ good_from n (Some mode) i bits p nuls e h =
     }
 
 -- what code that reads the fields gives
-pub given_fields : (r : Result IndexEntry IndexFault) (n : ℕ) (text : List ℕ) (mo : Option Mode) (m : ℕ) (id : List ℕ) (bits len : ℕ) (p q : List ℕ) → mo ≡ mode_of m → m ≡ from_be_bytes w32 (take 4 (drop 24 text)) → id ≡ take 20 (drop 40 text)
+pub given_fields : (r : Result IndexEntry IndexFault) (n : ℕ) (text : List ℕ) (mo : Option Mode) (m : ℕ) (id : List ℕ) (bits len : ℕ) (p q : List ℕ)
+    → mo ≡ mode_of m → m ≡ from_be_bytes w32 (take 4 (drop 24 text)) → id ≡ take 20 (drop 40 text)
     → bits ≡ flags_in text → len ≡ bits % 4096 → p ≡ take len (drop 62 text) → q ≡ drop (62 + len) text → Gives (λ e. e) r (entry_of n mo id bits p q) → Gives (λ e. e) r (entry_in n text)
 unfolding entry_in
 given_fields r n text mo m id bits len p q e1 e2 e3 e4 e5 e6 e7 h =
@@ -186,7 +191,8 @@ long_part text n k le = omega (arith, length-take k (drop n text), length-drop n
 pub stat_of : List ℕ → Stat
 stat_of text = record { times = take 24 text; owner = take 12 (drop 28 text); assumed = flags_in text / 32768 }
 
-pub row_taken : (n : ℕ) (text : List ℕ) (e : IndexEntry) → IsWhole text → IsBytes text → entry_in n text ≡ Ok e → (text ≡ row_text (stat_of text, e)) × IsRow (stat_of text, e)
+pub row_taken : (n : ℕ) (text : List ℕ) (e : IndexEntry) → IsWhole text → IsBytes text → entry_in n text ≡ Ok e
+    → (text ≡ row_text (stat_of text, e)) × IsRow (stat_of text, e)
 unfolding entry_in stat_of
 row_taken n text e w bytes h =
     let f : ℕ = flags_in text in
@@ -228,7 +234,8 @@ row_taken n text e w bytes h =
       },
     )
   where
-    seven : (t o : List ℕ) {m m' i i' f f' p p' z z' : List ℕ} → m ≡ m' → i ≡ i' → f ≡ f' → p ≡ p' → z ≡ z' → t ++ (m ++ (o ++ (i ++ (f ++ (p ++ z))))) ≡ t ++ (m' ++ (o ++ (i' ++ (f' ++ (p' ++ z')))))
+    seven : (t o : List ℕ) {m m' i i' f f' p p' z z' : List ℕ} → m ≡ m' → i ≡ i' → f ≡ f' → p ≡ p' → z ≡ z'
+        → t ++ (m ++ (o ++ (i ++ (f ++ (p ++ z))))) ≡ t ++ (m' ++ (o ++ (i' ++ (f' ++ (p' ++ z')))))
     seven t o a b c d e = cc
 
 -- ---- what is spelled so is read
@@ -276,7 +283,8 @@ row_again n r h =
     same ∙ entry_good n r.1.mode r.1.id f r.1.path (replicate (padding (62 + length r.1.path)) 0) plain (zeros_pass (padding (62 + length r.1.path))) (path_passes r.1.path h.path)
     ∙ ap (λ (s : ℕ). Ok (record { path = r.1.path; stage = s; mode = r.1.mode; id = r.1.id })) p.1
   where
-    six : (n : ℕ) {m m' : Option Mode} {i i' : List ℕ} {f f' : ℕ} {p p' z z' : List ℕ} → m ≡ m' → i ≡ i' → f ≡ f' → p ≡ p' → z ≡ z' → entry_of n m i f p z ≡ entry_of n m' i' f' p' z'
+    six : (n : ℕ) {m m' : Option Mode} {i i' : List ℕ} {f f' : ℕ} {p p' z z' : List ℕ} → m ≡ m' → i ≡ i' → f ≡ f' → p ≡ p' → z ≡ z'
+        → entry_of n m i f p z ≡ entry_of n m' i' f' p' z'
     six n a b c d e = cc
 
 length-row : (r : Stat × IndexEntry) → IsRow r → length (row_text r) ≡ 62 + length r.1.path + padding (62 + length r.1.path)

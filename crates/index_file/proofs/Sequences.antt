@@ -76,7 +76,8 @@ pub record TakesRows (n : ℕ) (es : List IndexEntry) (bytes : List ℕ) (all : 
   pub in_order : IsInOrder es → IsInOrder all
   pub rest_bytes : IsBytes rest
 
-pub entries_take : (n : ℕ) (es : List IndexEntry) (bytes : List ℕ) (all : List IndexEntry) (rest : List ℕ) → IsBytes bytes → entries_at n es bytes ≡ Ok (all, rest) → TakesRows n es bytes all rest
+pub entries_take : (n : ℕ) (es : List IndexEntry) (bytes : List ℕ) (all : List IndexEntry) (rest : List ℕ) → IsBytes bytes
+    → entries_at n es bytes ≡ Ok (all, rest) → TakesRows n es bytes all rest
 unfolding entries_at
 entries_take zero es bytes all rest h eq =
     let same = ok_is (es, bytes) (all, rest) eq in
@@ -94,10 +95,14 @@ entries_take (suc n) es bytes all rest h eq =
     let P : List IndexEntry → Type 0 = λ x. IsInOrder x in
     record {
       rows = (first.stat, a.0.0) ∷ second.rows;
-      text = first.text ∙ ap (λ (x : List ℕ). row_text (first.stat, a.0.0) ++ x) second.text ∙ sym (append_assoc (row_text (first.stat, a.0.0)) (flat_map row_text second.rows) rest);
+      text =
+          first.text ∙ ap (λ (x : List ℕ). row_text (first.stat, a.0.0) ++ x) second.text
+          ∙ sym (append_assoc (row_text (first.stat, a.0.0)) (flat_map row_text second.rows) rest);
       are_rows = (first.is_row, second.are_rows);
       number = ap suc second.number;
-      entries = second.entries ∙ ap (λ (x : List IndexEntry). x ++ entries_of second.rows) (sym follows.1) ∙ append_assoc es (a.0.0 ∷ []) (entries_of second.rows);
+      entries =
+          second.entries ∙ ap (λ (x : List IndexEntry). x ++ entries_of second.rows) (sym follows.1)
+          ∙ append_assoc es (a.0.0 ∷ []) (entries_of second.rows);
       in_order = λ o. second.in_order (subst P follows.1 (in_order_push es a.0.0 o follows.0));
       rest_bytes = second.rest_bytes;
     }
@@ -116,7 +121,8 @@ may_from [] e more h = refl
 may_from (d ∷ es) e more h = also (may_precede d e) (may_follow es e) (later d e es more h.0) (may_from es e more h.1)
 
 -- entries that may stand there are read one after the other
-pub entries_on : (es : List IndexEntry) (rows : List (Stat × IndexEntry)) (rest : List ℕ) (n : ℕ) → AllByRecursion IsRow rows → IsInOrder (es ++ entries_of rows)
+pub entries_on : (es : List IndexEntry) (rows : List (Stat × IndexEntry)) (rest : List ℕ) (n : ℕ) → AllByRecursion IsRow rows
+    → IsInOrder (es ++ entries_of rows)
     → entries_at (length rows + n) es (flat_map row_text rows ++ rest) ≡ entries_at n (es ++ entries_of rows) rest
 unfolding entries_at appended
 entries_on es [] rest n h o = let k : 0 + n ≡ n = omega arith in rw k (ap (λ (x : List IndexEntry). entries_at n x rest) (sym (append-nil es)))
@@ -131,7 +137,8 @@ entries_on es (r ∷ rows) rest n h o =
 
 -- ---- extensions
 
-three_guards : (a b c : Bool) (x y z : IndexFault) (v w : List ℕ) → cond a (Err x) (cond b (Err y) (cond c (Err z) (Ok v))) ≡ Ok w → (a ≡ false) × (b ≡ false) × (c ≡ false) × (v ≡ w)
+three_guards : (a b c : Bool) (x y z : IndexFault) (v w : List ℕ) → cond a (Err x) (cond b (Err y) (cond c (Err z) (Ok v))) ≡ Ok w
+    → (a ≡ false) × (b ≡ false) × (c ≡ false) × (v ≡ w)
 three_guards false false false x y z v w e = (refl, refl, refl, cc)
 three_guards true b c x y z v w e = cc
 three_guards false true c x y z v w e = cc
@@ -210,7 +217,8 @@ extension_again x rest h le =
     ap (λ (k : ℕ). drop (8 + k) bytes) size ∙ drop_at (extension_text x) rest (8 + length x.content) (simp length-append (omega (arith, h.tag))) in
     passed (nat_lt (length bytes) 28) (not (is_capital (slice_index bytes 0))) (nat_lt (length bytes) (28 + from_be_bytes w32 (take 4 (drop 4 bytes)))) fault.Count (fault.Extension (take 4 bytes)) fault.Count _ rest first second third last
   where
-    passed : (a b c : Bool) (x y z : IndexFault) (v w : List ℕ) → a ≡ false → b ≡ false → c ≡ false → v ≡ w → cond a (Err x) (cond b (Err y) (cond c (Err z) (Ok v))) ≡ Ok w
+    passed : (a b c : Bool) (x y z : IndexFault) (v w : List ℕ) → a ≡ false → b ≡ false → c ≡ false → v ≡ w
+        → cond a (Err x) (cond b (Err y) (cond c (Err z) (Ok v))) ≡ Ok w
     passed a b c x y z v w p q r s = rw (p, q, r, s) refl
 
 -- ---- the trailer
@@ -226,19 +234,24 @@ unfolding trailer_at
 trailer_takes zero bytes trailer h eq = at_end (length bytes == 20) refl eq
   where
     at_end : (t : Bool) → (length bytes == 20) ≡ t → cond t (Ok bytes) (Err fault.Count) ≡ Ok trailer → TakesExtensions bytes trailer
-    at_end true same e = let is : bytes ≡ trailer = cc in record { extensions = []; text = is; are_extensions = tt; twenty = sym (ap length is) ∙ eqb-true (length bytes) 20 same }
+    at_end true same e =
+        let is : bytes ≡ trailer = cc in record { extensions = []; text = is; are_extensions = tt; twenty = sym (ap length is) ∙ eqb-true (length bytes) 20 same }
     at_end false same e = cc
 trailer_takes (suc n) bytes trailer h eq = at_end (length bytes == 20) refl eq (λ rest b e. trailer_takes n rest trailer b e)
   where
-    at_end : (t : Bool) → (length bytes == 20) ≡ t → cond t (Ok bytes) (extension_at bytes >>= λ rest. trailer_at n rest) ≡ Ok trailer → ((rest : List ℕ) → IsBytes rest → trailer_at n rest ≡ Ok trailer → TakesExtensions rest trailer) → TakesExtensions bytes trailer
-    at_end true same e go = let is : bytes ≡ trailer = cc in record { extensions = []; text = is; are_extensions = tt; twenty = sym (ap length is) ∙ eqb-true (length bytes) 20 same }
+    at_end : (t : Bool) → (length bytes == 20) ≡ t → cond t (Ok bytes) (extension_at bytes >>= λ rest. trailer_at n rest) ≡ Ok trailer
+        → ((rest : List ℕ) → IsBytes rest → trailer_at n rest ≡ Ok trailer → TakesExtensions rest trailer) → TakesExtensions bytes trailer
+    at_end true same e go =
+        let is : bytes ≡ trailer = cc in record { extensions = []; text = is; are_extensions = tt; twenty = sym (ap length is) ∙ eqb-true (length bytes) 20 same }
     at_end false same e go =
         let a = bind_ok (extension_at bytes) (λ rest. trailer_at n rest) trailer e in
         let first = extension_takes bytes a.0 h a.1 in
         let second = go a.0 first.rest_bytes a.2 in
         record {
           extensions = first.extension ∷ second.extensions;
-          text = first.text ∙ ap (λ (x : List ℕ). extension_text first.extension ++ x) second.text ∙ sym (append_assoc (extension_text first.extension) (flat_map extension_text second.extensions) trailer);
+          text =
+              first.text ∙ ap (λ (x : List ℕ). extension_text first.extension ++ x) second.text
+              ∙ sym (append_assoc (extension_text first.extension) (flat_map extension_text second.extensions) trailer);
           are_extensions = (first.is_extension, second.are_extensions);
           twenty = second.twenty;
         }
@@ -250,7 +263,8 @@ is_twenty : (n : ℕ) → n ≡ 20 → (n == 20) ≡ true
 is_twenty n e = grind (arith, nat_tests)
 
 -- extensions are skipped one after the other
-pub trailer_on : (n m : ℕ) (extensions : List Extension) (rest : List ℕ) → AllByRecursion IsExtension extensions → 20 ≤ length rest → length (flat_map extension_text extensions ++ rest) ≤ n → length rest ≤ m
+pub trailer_on : (n m : ℕ) (extensions : List Extension) (rest : List ℕ) → AllByRecursion IsExtension extensions → 20 ≤ length rest
+    → length (flat_map extension_text extensions ++ rest) ≤ n → length rest ≤ m
     → trailer_at n (flat_map extension_text extensions ++ rest) ≡ trailer_at m rest
 trailer_on n m [] rest h long le le' = any_bound n m rest le le'
 trailer_on zero m (x ∷ extensions) rest h long le le' = absurd (omega (arith, length-append (flat_map extension_text (x ∷ extensions)) rest))
@@ -264,7 +278,8 @@ trailer_on (suc n) m (x ∷ extensions) rest h long le le' =
     ap (trailer_at (suc n)) text ∙ sym (trailer_more n (extension_text x ++ others) others (not_twenty (length (extension_text x ++ others)) (omega arith)) (extension_again x others h.0 longer) small)
     ∙ trailer_on n m extensions rest h.1 long small le'
 
-pub trailer_again : (n : ℕ) (extensions : List Extension) (trailer : List ℕ) → AllByRecursion IsExtension extensions → length trailer ≡ 20 → length (flat_map extension_text extensions ++ trailer) ≤ n
+pub trailer_again : (n : ℕ) (extensions : List Extension) (trailer : List ℕ) → AllByRecursion IsExtension extensions → length trailer ≡ 20
+    → length (flat_map extension_text extensions ++ trailer) ≤ n
     → trailer_at n (flat_map extension_text extensions ++ trailer) ≡ Ok trailer
 trailer_again n extensions trailer h twenty le =
     trailer_on n (length trailer) extensions trailer h (omega (arith, twenty)) le (omega arith) ∙ trailer_end (length trailer) trailer (is_twenty (length trailer) twenty)

@@ -32,7 +32,9 @@ abbrev stages : IndexEntry → IndexEntry → Bool
 stages d e = nat_lt 0 d.stage && nat_lt d.stage e.stage
 
 pub before_is : (d e : IndexEntry) → comes_before d e ≡ by_order (slice_cmp nat_cmp d.path e.path) (nat_lt 0 d.stage && nat_lt d.stage e.stage)
-before_is d e = ap (λ (b : Bool). is_lt (slice_cmp nat_cmp d.path e.path) || (b && stages d e)) (sym (is_eq-slice_cmp d.path e.path)) ∙ by_parts (slice_cmp nat_cmp d.path e.path) (stages d e)
+before_is d e =
+    ap (λ (b : Bool). is_lt (slice_cmp nat_cmp d.path e.path) || (b && stages d e)) (sym (is_eq-slice_cmp d.path e.path))
+    ∙ by_parts (slice_cmp nat_cmp d.path e.path) (stages d e)
 
 both : (a b : Bool) → a && b ≡ true → (a ≡ true) × (b ≡ true)
 both true b e = (refl, e)
@@ -62,7 +64,8 @@ from_less : (d e : IndexEntry) → slice_cmp nat_cmp d.path e.path ≡ Less → 
 from_less d e h = before_is d e ∙ ap (λ (o : Ordering). by_order o (stages d e)) h
 
 from_same : (d e : IndexEntry) → d.path ≡ e.path → stages d e ≡ true → comes_before d e ≡ true
-from_same d e p h = before_is d e ∙ ap (λ (o : Ordering). by_order o (stages d e)) (ap (λ (x : List ℕ). slice_cmp nat_cmp x e.path) p ∙ itself e.path) ∙ h
+from_same d e p h =
+    before_is d e ∙ ap (λ (o : Ordering). by_order o (stages d e)) (ap (λ (x : List ℕ). slice_cmp nat_cmp x e.path) p ∙ itself e.path) ∙ h
 
 stages_chain : (a b c : ℕ) → nat_lt 0 a && nat_lt a b ≡ true → nat_lt 0 b && nat_lt b c ≡ true → nat_lt 0 a && nat_lt a c ≡ true
 stages_chain a b c p q = grind (arith, nat_tests)
@@ -136,32 +139,39 @@ shuffled false h m a' h' e = refl
 
 follow_split : (es : List IndexEntry) (e : IndexEntry) → may_follow es e ≡ list_all (λ d. comes_before d e) es && not (list_any (λ d. holds d e) es)
 follow_split [] e = refl
-follow_split (d ∷ es) e = shuffled (comes_before d e) (holds d e) (may_follow es e) (list_all (λ d. comes_before d e) es) (list_any (λ d. holds d e) es) (follow_split es e)
+follow_split (d ∷ es) e =
+    shuffled (comes_before d e) (holds d e) (may_follow es e) (list_all (λ d. comes_before d e) es) (list_any (λ d. holds d e) es) (follow_split es e)
 
 and_false : (b : Bool) → false ≡ b && false
 and_false true = refl
 and_false false = refl
 
-held_by : (s t x l : Bool) (d : IndexEntry) (test : List ℕ → Bool) (es : List IndexEntry) → test d.path ≡ x → l ≡ t && list_any test (map (λ e. e.path) es)
+held_by : (s t x l : Bool) (d : IndexEntry) (test : List ℕ → Bool) (es : List IndexEntry) → test d.path ≡ x
+    → l ≡ t && list_any test (map (λ e. e.path) es)
     → (s && (t && x)) || l ≡ t && list_any test (map (λ e. e.path) (cond s (d ∷ es) es))
 held_by true true x l d test es p q = rw (p, q) refl
 held_by true false x l d test es p q = q
 held_by false t x l d test es p q = q
 
-any_holds : (es : List IndexEntry) (e : IndexEntry) → list_any (λ d. holds d e) es ≡ (e.stage == 0) && list_any (λ file. is_below file e.path) (files_of es)
+any_holds : (es : List IndexEntry) (e : IndexEntry)
+    → list_any (λ d. holds d e) es ≡ (e.stage == 0) && list_any (λ file. is_below file e.path) (files_of es)
 any_holds [] e = and_false (e.stage == 0)
-any_holds (d ∷ es) e = held_by (d.stage == 0) (e.stage == 0) (is_below d.path e.path) (list_any (λ d. holds d e) es) d (λ file. is_below file e.path) (filter (λ e. e.stage == 0) es) refl (any_holds es e)
+any_holds (d ∷ es) e =
+    held_by (d.stage == 0) (e.stage == 0) (is_below d.path e.path) (list_any (λ d. holds d e) es) d (λ file. is_below file e.path) (filter (λ e. e.stage == 0) es) refl (any_holds es e)
 
-follow_is : (es : List IndexEntry) (e : IndexEntry) → IsInOrder es → may_follow es e ≡ allows (last_of es) e && not ((e.stage == 0) && is_below_front (fronts (files_of es) e.path) e.path)
+follow_is : (es : List IndexEntry) (e : IndexEntry) → IsInOrder es
+    → may_follow es e ≡ allows (last_of es) e && not ((e.stage == 0) && is_below_front (fronts (files_of es) e.path) e.path)
 follow_is es e h = follow_split es e ∙ rw (all_before es e h, any_holds es e, below_is (files_of es) e.path) refl
 
 -- ---- what the marks say
 
-most_by : (s : Bool) (d : IndexEntry) (es : List IndexEntry) (last : List ℕ) → at_most d.path last ≡ true → AllAtMost (map (λ e. e.path) es) last → AllAtMost (map (λ e. e.path) (cond s (d ∷ es) es)) last
+most_by : (s : Bool) (d : IndexEntry) (es : List IndexEntry) (last : List ℕ) → at_most d.path last ≡ true → AllAtMost (map (λ e. e.path) es) last
+    → AllAtMost (map (λ e. e.path) (cond s (d ∷ es) es)) last
 most_by true d es last p q = rw p q
 most_by false d es last p q = q
 
-most_last : (d : IndexEntry) (o : Option IndexEntry) (e : IndexEntry) → o ≡ Some e → IfSome o (λ e. may_precede d e ≡ true) → at_most d.path (path_of o) ≡ true
+most_last : (d : IndexEntry) (o : Option IndexEntry) (e : IndexEntry) → o ≡ Some e → IfSome o (λ e. may_precede d e ≡ true)
+    → at_most d.path (path_of o) ≡ true
 most_last d (Some f) e eq h = comes_most d f (precede_before d f h)
 most_last d None e eq h = cc
 
@@ -185,7 +195,8 @@ allows_most (Some d) e h = comes_most d e h
 
 -- ---- one entry more
 
-files_by : (s t : Bool) (d e : IndexEntry) (es more : List IndexEntry) → map (λ e. e.path) more ≡ cond t (map (λ e. e.path) es ++ e.path ∷ []) (map (λ e. e.path) es)
+files_by : (s t : Bool) (d e : IndexEntry) (es more : List IndexEntry)
+    → map (λ e. e.path) more ≡ cond t (map (λ e. e.path) es ++ e.path ∷ []) (map (λ e. e.path) es)
     → map (λ e. e.path) (cond s (d ∷ more) more) ≡ cond t (map (λ e. e.path) (cond s (d ∷ es) es) ++ e.path ∷ []) (map (λ e. e.path) (cond s (d ∷ es) es))
 files_by true true d e es more h = ap (λ (ps : List (List ℕ)). d.path ∷ ps) h
 files_by true false d e es more h = ap (λ (ps : List (List ℕ)). d.path ∷ ps) h
@@ -197,7 +208,8 @@ one_file false e = refl
 
 files_push : (es : List IndexEntry) (e : IndexEntry) → files_of (es ++ e ∷ []) ≡ cond (e.stage == 0) (files_of es ++ e.path ∷ []) (files_of es)
 files_push [] e = one_file (e.stage == 0) e
-files_push (d ∷ es) e = files_by (d.stage == 0) (e.stage == 0) d e (filter (λ e. e.stage == 0) es) (filter (λ e. e.stage == 0) (es ++ e ∷ [])) (files_push es e)
+files_push (d ∷ es) e =
+    files_by (d.stage == 0) (e.stage == 0) d e (filter (λ e. e.stage == 0) es) (filter (λ e. e.stage == 0) (es ++ e ∷ [])) (files_push es e)
 
 all_push : (P : IndexEntry → Type 0) (es : List IndexEntry) (e : IndexEntry) → AllByRecursion P es → P e → AllByRecursion P (es ++ e ∷ [])
 all_push P [] e h p = (p, tt)
@@ -214,24 +226,31 @@ in_order_push (d ∷ es) e h p =
 pub not_after : (es : List IndexEntry) (e : IndexEntry) → IsInOrder es → allows (last_of es) e ≡ false → may_follow es e ≡ false
 not_after es e h p = follow_is es e h ∙ ap (λ (b : Bool). b && not ((e.stage == 0) && is_below_front (fronts (files_of es) e.path) e.path)) p
 
-marks_are : (es : List IndexEntry) (marks moved : List Bool) (e : IndexEntry) → HoldsFronts es marks → allows (last_of es) e ≡ true → moved ≡ carried (path_of (last_of es)) marks e.path → moved ≡ fronts (files_of es) e.path
-marks_are es marks moved e h p q = q ∙ ap (λ (ms : List Bool). carried (path_of (last_of es)) ms e.path) h.fronts ∙ carried_is (files_of es) (path_of (last_of es)) e.path (all_most es h.in_order) (allows_most (last_of es) e p)
+marks_are : (es : List IndexEntry) (marks moved : List Bool) (e : IndexEntry) → HoldsFronts es marks → allows (last_of es) e ≡ true
+    → moved ≡ carried (path_of (last_of es)) marks e.path → moved ≡ fronts (files_of es) e.path
+marks_are es marks moved e h p q =
+    q ∙ ap (λ (ms : List Bool). carried (path_of (last_of es)) ms e.path) h.fronts
+    ∙ carried_is (files_of es) (path_of (last_of es)) e.path (all_most es h.in_order) (allows_most (last_of es) e p)
 
 push_path : (es : List IndexEntry) (e : IndexEntry) (files : List (List ℕ)) → fronts files e.path ≡ fronts files (path_of (last_of (es ++ e ∷ [])))
 push_path es e files = ap (λ (o : Option IndexEntry). fronts files (path_of o)) (sym (last_push es e))
 
-pub placed_other : (es : List IndexEntry) (marks moved : List Bool) (e : IndexEntry) → HoldsFronts es marks → allows (last_of es) e ≡ true → moved ≡ carried (path_of (last_of es)) marks e.path → (e.stage == 0) ≡ false
+pub placed_other : (es : List IndexEntry) (marks moved : List Bool) (e : IndexEntry) → HoldsFronts es marks → allows (last_of es) e ≡ true
+    → moved ≡ carried (path_of (last_of es)) marks e.path → (e.stage == 0) ≡ false
     → (may_follow es e ≡ true) × HoldsFronts (es ++ e ∷ []) moved
 placed_other es marks moved e h p q other =
     let follows : may_follow es e ≡ true = follow_is es e h.in_order ∙ rw (p, other) refl in (
       follows,
       record {
         in_order = in_order_push es e h.in_order follows;
-        fronts = marks_are es marks moved e h p q ∙ ap (λ (fs : List (List ℕ)). fronts fs e.path) (sym (files_push es e ∙ rw other refl)) ∙ push_path es e (files_of (es ++ e ∷ []));
+        fronts =
+            marks_are es marks moved e h p q ∙ ap (λ (fs : List (List ℕ)). fronts fs e.path) (sym (files_push es e ∙ rw other refl))
+            ∙ push_path es e (files_of (es ++ e ∷ []));
       },
     )
 
-pub placed_file : (es : List IndexEntry) (marks moved : List Bool) (e : IndexEntry) (below : Bool) → HoldsFronts es marks → allows (last_of es) e ≡ true → moved ≡ carried (path_of (last_of es)) marks e.path → (e.stage == 0) ≡ true
+pub placed_file : (es : List IndexEntry) (marks moved : List Bool) (e : IndexEntry) (below : Bool) → HoldsFronts es marks
+    → allows (last_of es) e ≡ true → moved ≡ carried (path_of (last_of es)) marks e.path → (e.stage == 0) ≡ true
     → below ≡ is_below_front moved e.path → (not below ≡ may_follow es e) × (not below ≡ true → HoldsFronts (es ++ e ∷ []) (set moved (length e.path) true))
 placed_file es marks moved e below h p q file is =
     let marked = marks_are es marks moved e h p q in
@@ -239,6 +258,8 @@ placed_file es marks moved e below h p q file is =
       follows,
       λ free. record {
         in_order = in_order_push es e h.in_order (sym follows ∙ free);
-        fronts = ap (λ (ms : List Bool). set ms (length e.path) true) marked ∙ sym (fronts_more (files_of es) e.path) ∙ ap (λ (fs : List (List ℕ)). fronts fs e.path) (sym (files_push es e ∙ rw file refl)) ∙ push_path es e (files_of (es ++ e ∷ []));
+        fronts =
+            ap (λ (ms : List Bool). set ms (length e.path) true) marked ∙ sym (fronts_more (files_of es) e.path)
+            ∙ ap (λ (fs : List (List ℕ)). fronts fs e.path) (sym (files_push es e ∙ rw file refl)) ∙ push_path es e (files_of (es ++ e ∷ []));
       },
     )

@@ -21,7 +21,8 @@ fails_then Hash r k h = rw h refl
 pub fails_along : {A : Type 0} (f : IndexFault) (x y : Result A IndexFault) → x ≡ y → Fails f x → Fails f y
 fails_along f x y e h = let P = λ (r : Result _ IndexFault). Fails f r in subst P e h
 
-last_of_three : (a b c : Bool) (x y z : IndexFault) (v w : List ℕ) → cond a (Err x) (cond b (Err y) (cond c (Err z) (Ok v))) ≡ Ok w → (a ≡ false) × (b ≡ false) × (c ≡ false) × (v ≡ w)
+last_of_three : (a b c : Bool) (x y z : IndexFault) (v w : List ℕ) → cond a (Err x) (cond b (Err y) (cond c (Err z) (Ok v))) ≡ Ok w
+    → (a ≡ false) × (b ≡ false) × (c ≡ false) × (v ≡ w)
 last_of_three false false false x y z v w e = (refl, refl, refl, cc)
 last_of_three true b c x y z v w e = cc
 last_of_three false true c x y z v w e = cc
@@ -51,7 +52,8 @@ no_more bytes le = rw (is_less (length bytes) le) refl
     is_less : (n : ℕ) → n ≤ 0 → nat_lt n 28 ≡ true
     is_less n le = grind (arith, nat_tests)
 
-goes_on : (bytes : List ℕ) (n m : ℕ) (r : Result (List ℕ) IndexFault) → extension_at bytes ≡ r → ((rest : List ℕ) → length rest + 8 ≤ length bytes → trailer_at n rest ≡ trailer_at m rest)
+goes_on : (bytes : List ℕ) (n m : ℕ) (r : Result (List ℕ) IndexFault) → extension_at bytes ≡ r
+    → ((rest : List ℕ) → length rest + 8 ≤ length bytes → trailer_at n rest ≡ trailer_at m rest)
     → (r >>= λ rest. trailer_at n rest) ≡ (r >>= λ rest. trailer_at m rest)
 goes_on bytes n m (Ok rest) e h = h rest (shorter bytes rest e)
 goes_on bytes n m (Err f) e h = refl
@@ -60,13 +62,16 @@ goes_on bytes n m (Err f) e h = refl
 pub any_bound : (n m : ℕ) (bytes : List ℕ) → length bytes ≤ n → length bytes ≤ m → trailer_at n bytes ≡ trailer_at m bytes
 unfolding trailer_at
 any_bound zero zero bytes p q = refl
-any_bound zero (suc m) bytes p q = ended (length bytes == 20) bytes (Err Count) (extension_at bytes >>= λ rest. trailer_at m rest) (λ _. rw (no_more bytes p) refl)
-any_bound (suc n) zero bytes p q = ended (length bytes == 20) bytes (extension_at bytes >>= λ rest. trailer_at n rest) (Err Count) (λ _. rw (no_more bytes q) refl)
+any_bound zero (suc m) bytes p q =
+    ended (length bytes == 20) bytes (Err Count) (extension_at bytes >>= λ rest. trailer_at m rest) (λ _. rw (no_more bytes p) refl)
+any_bound (suc n) zero bytes p q =
+    ended (length bytes == 20) bytes (extension_at bytes >>= λ rest. trailer_at n rest) (Err Count) (λ _. rw (no_more bytes q) refl)
 any_bound (suc n) (suc m) bytes p q =
     ended (length bytes == 20) bytes (extension_at bytes >>= λ rest. trailer_at n rest) (extension_at bytes >>= λ rest. trailer_at m rest)
     (λ _. goes_on bytes n m (extension_at bytes) refl (λ rest le. any_bound n m rest (omega arith) (omega arith)))
 
-pub trailer_more : (n : ℕ) (bytes rest : List ℕ) → (length bytes == 20) ≡ false → extension_at bytes ≡ Ok rest → length rest ≤ n → trailer_at n rest ≡ trailer_at (suc n) bytes
+pub trailer_more : (n : ℕ) (bytes rest : List ℕ) → (length bytes == 20) ≡ false → extension_at bytes ≡ Ok rest → length rest ≤ n
+    → trailer_at n rest ≡ trailer_at (suc n) bytes
 unfolding trailer_at
 trailer_more n bytes rest more e le = rw (more, e) refl
 
@@ -75,6 +80,7 @@ unfolding trailer_at
 trailer_end zero bytes e = rw e refl
 trailer_end (suc n) bytes e = rw e refl
 
-pub trailer_fails : (n : ℕ) (bytes : List ℕ) (f : IndexFault) → (length bytes == 20) ≡ false → Fails f (extension_at bytes) → Fails f (trailer_at (suc n) bytes)
+pub trailer_fails : (n : ℕ) (bytes : List ℕ) (f : IndexFault) → (length bytes == 20) ≡ false → Fails f (extension_at bytes)
+    → Fails f (trailer_at (suc n) bytes)
 unfolding trailer_at
 trailer_fails n bytes f more h = rw more (fails_then f (extension_at bytes) (λ rest. trailer_at n rest) h)

@@ -37,7 +37,8 @@ guarded false d r y e = cc
 
 -- ---- the header
 
-pub number_takes : (bytes : List ℕ) (n : ℕ) (rest : List ℕ) → IsBytes bytes → number_at bytes ≡ Ok (n, rest) → (bytes ≡ to_be_bytes w32 n ++ rest) × (n < 2 ^ 32)
+pub number_takes : (bytes : List ℕ) (n : ℕ) (rest : List ℕ) → IsBytes bytes → number_at bytes ≡ Ok (n, rest)
+    → (bytes ≡ to_be_bytes w32 n ++ rest) × (n < 2 ^ 32)
 number_takes bytes n rest h e =
     let g = guard_ok (nat_lt (length bytes) 4) fault.Count (from_be_bytes w32 (take 4 bytes), drop 4 bytes) (n, rest) e in
     let long : 4 ≤ length bytes = not_less (length bytes) 4 g.0 in
@@ -73,7 +74,8 @@ same_bytes (x ∷ xs) (y ∷ ys) e =
     both true b e = (refl, e)
     both false b e = cc
 
-pub header_takes : (bytes : List ℕ) (n : ℕ) (rest : List ℕ) → IsBytes bytes → header_at bytes ≡ Ok (n, rest) → (bytes ≡ header_text n ++ rest) × (n < 2 ^ 32)
+pub header_takes : (bytes : List ℕ) (n : ℕ) (rest : List ℕ) → IsBytes bytes → header_at bytes ≡ Ok (n, rest)
+    → (bytes ≡ header_text n ++ rest) × (n < 2 ^ 32)
 unfolding header_at
 header_takes bytes n rest h e =
     let magic = guarded (bytes_eq (take 4 bytes) (codes "DIRC")) fault.Magic (number_at (drop 4 bytes) >>= λ version. cond (version.0 == 2) (number_at version.1) (Err (fault.Version version.0))) (n, rest) e in
@@ -88,12 +90,16 @@ header_takes bytes n rest h e =
     )
 
 -- what is read behind a signature and a version
-pub header_by : (rest after : List ℕ) (v : ℕ) → number_at rest ≡ Ok (v, after) → header_at (codes "DIRC" ++ rest) ≡ cond (v == 2) (number_at after) (Err (fault.Version v))
+pub header_by : (rest after : List ℕ) (v : ℕ) → number_at rest ≡ Ok (v, after)
+    → header_at (codes "DIRC" ++ rest) ≡ cond (v == 2) (number_at after) (Err (fault.Version v))
 unfolding header_at
-header_by rest after v e = ap (λ (r : Result (ℕ × List ℕ) IndexFault). r >>= λ version. cond (version.0 == 2) (number_at version.1) (Err (fault.Version version.0))) e
+header_by rest after v e =
+    ap (λ (r : Result (ℕ × List ℕ) IndexFault). r >>= λ version. cond (version.0 == 2) (number_at version.1) (Err (fault.Version version.0))) e
 
 pub header_again : (n : ℕ) (rest : List ℕ) → n < 2 ^ 32 → header_at (header_text n ++ rest) ≡ Ok (n, rest)
-header_again n rest lt = header_by (to_be_bytes w32 2 ++ (to_be_bytes w32 n ++ rest)) (to_be_bytes w32 n ++ rest) 2 (number_again 2 (to_be_bytes w32 n ++ rest) (omega arith)) ∙ number_again n rest lt
+header_again n rest lt =
+    header_by (to_be_bytes w32 2 ++ (to_be_bytes w32 n ++ rest)) (to_be_bytes w32 n ++ rest) 2 (number_again 2 (to_be_bytes w32 n ++ rest) (omega arith))
+    ∙ number_again n rest lt
 
 -- ---- the trailer
 
@@ -116,7 +122,8 @@ trailer_from body trailer twenty e = elim (either (bytes_eq trailer (sha1 body))
 ]
 
 pub trailer_passes : (body trailer : List ℕ) → IsTrailer body trailer → is_trailer body trailer ≡ true
-trailer_passes body trailer (inl same) = or_left (bytes_eq trailer (sha1 body)) (are_zero trailer) (ap (λ (x : List ℕ). bytes_eq x (sha1 body)) same ∙ nat_list_eq_equiv.refl (sha1 body))
+trailer_passes body trailer (inl same) =
+    or_left (bytes_eq trailer (sha1 body)) (are_zero trailer) (ap (λ (x : List ℕ). bytes_eq x (sha1 body)) same ∙ nat_list_eq_equiv.refl (sha1 body))
 trailer_passes body trailer (inr zeros) = or_right (bytes_eq trailer (sha1 body)) (are_zero trailer) (ap are_zero zeros ∙ zeros_pass 20)
 
 digest_len : (h : List ℕ) (n : ℕ) → length (digest_bytes h n) ≡ 4 * n
@@ -138,7 +145,8 @@ staged_rows : (rows : List (Stat × IndexEntry)) → AllByRecursion IsRow rows �
 staged_rows [] h = tt
 staged_rows (r ∷ rows) h = (h.0.staged, staged_rows rows h.1)
 
-pub body_of : (count : ℕ) (rows : List (Stat × IndexEntry)) (extensions : List Extension) (bytes rest tail trailer : List ℕ) → length rows ≡ count → bytes ≡ header_text count ++ rest → rest ≡ flat_map row_text rows ++ tail → tail ≡ flat_map extension_text extensions ++ trailer
+pub body_of : (count : ℕ) (rows : List (Stat × IndexEntry)) (extensions : List Extension) (bytes rest tail trailer : List ℕ) → length rows ≡ count
+    → bytes ≡ header_text count ++ rest → rest ≡ flat_map row_text rows ++ tail → tail ≡ flat_map extension_text extensions ++ trailer
     → bytes ≡ body_text rows extensions ++ trailer
 body_of count rows extensions bytes rest tail trailer n p q r =
     p ∙ ap (λ (k : ℕ). header_text k ++ rest) (sym n) ∙ ap (λ (x : List ℕ). header_text (length rows) ++ x) (q ∙ ap (λ (x : List ℕ). flat_map row_text rows ++ x) r ∙ sym (append_assoc (flat_map row_text rows) (flat_map extension_text extensions) trailer))
@@ -178,12 +186,14 @@ index_takes bytes es h eq =
       extensions = tail.extensions;
       are_extensions = tail.are_extensions;
       trailer = c.0;
-      is_trailer = subst R (front_of_body (body_text rows.rows tail.extensions) c.0 bytes tail.twenty text) (trailer_from body c.0 tail.twenty last.0);
+      is_trailer =
+          subst R (front_of_body (body_text rows.rows tail.extensions) c.0 bytes tail.twenty text) (trailer_from body c.0 tail.twenty last.0);
       text = text;
     }
 
 -- reading behind the entries
-pub reads_tail : (rows : List (Stat × IndexEntry)) (bytes tail : List ℕ) → AllByRecursion IsRow rows → IsInOrder (entries_of rows) → length rows < 2 ^ 32 → bytes ≡ header_text (length rows) ++ (flat_map row_text rows ++ tail)
+pub reads_tail : (rows : List (Stat × IndexEntry)) (bytes tail : List ℕ) → AllByRecursion IsRow rows → IsInOrder (entries_of rows)
+    → length rows < 2 ^ 32 → bytes ≡ header_text (length rows) ++ (flat_map row_text rows ++ tail)
     → index_of bytes ≡ (trailer_at (length tail) tail >>= λ trailer. cond (is_trailer (take (length bytes - 20) bytes) trailer) (Ok (entries_of rows)) (Err fault.Hash))
 unfolding index_of entries_at
 reads_tail rows bytes tail h o few text =
@@ -237,7 +247,8 @@ text_spells es index h =
 
 -- ---- what a reader answered
 
-pub is_spelled : (bytes : List ℕ) (r : Result (Vec IndexEntry) IndexFault) → IsBytes bytes → Gives (λ v. v.items) r (index_of bytes) → IfOk r (λ entries. Spells entries.items bytes)
+pub is_spelled : (bytes : List ℕ) (r : Result (Vec IndexEntry) IndexFault) → IsBytes bytes → Gives (λ v. v.items) r (index_of bytes)
+    → IfOk r (λ entries. Spells entries.items bytes)
 is_spelled bytes (Ok v) h given = index_takes bytes v.items h given
 is_spelled bytes (Err f) h given = tt
 

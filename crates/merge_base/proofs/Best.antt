@@ -35,7 +35,8 @@ pub length_parents : (graph : List Node) (ones others : List Bool) (n : ℕ) →
 length_parents graph ones others zero = length-replicate (length graph) false
 length_parents graph ones others (suc n) = at (length_parents graph ones others n) (are_both_marked ones others n)
   where
-    at : length (parents_of_both graph ones others n) ≡ length graph → (t : Bool) → length (cond t (mark_each graph (parents_at graph n) (parents_of_both graph ones others n)) (parents_of_both graph ones others n)) ≡ length graph
+    at : length (parents_of_both graph ones others n) ≡ length graph → (t : Bool)
+        → length (cond t (mark_each graph (parents_at graph n) (parents_of_both graph ones others n)) (parents_of_both graph ones others n)) ≡ length graph
     at rest true = length_mark_each graph (parents_at graph n) (parents_of_both graph ones others n) ∙ rest
     at rest false = rest
 
@@ -46,26 +47,36 @@ record HasChild (graph : List Node) (ones others : List Bool) (n k : ℕ) : Type
   common : are_both_marked ones others child ≡ true
   by : MarkedBy graph (parents_at graph child) k
 
-parents_only : (graph : List Node) (ones others : List Bool) (n k : ℕ) → is_marked (parents_of_both graph ones others n) k ≡ true → HasChild graph ones others n k
+parents_only : (graph : List Node) (ones others : List Bool) (n k : ℕ) → is_marked (parents_of_both graph ones others n) k ≡ true
+    → HasChild graph ones others n k
 parents_only graph ones others zero k e = absurd (unmarked (length graph) k e)
 parents_only graph ones others (suc n) k e = at (λ e. more (parents_only graph ones others n k e)) (are_both_marked ones others n) refl e
   where
     more : HasChild graph ones others n k → HasChild graph ones others (suc n) k
     more h = record { child = h.child; before = omega (arith, h.before); common = h.common; by = h.by }
 
-    at : (is_marked (parents_of_both graph ones others n) k ≡ true → HasChild graph ones others (suc n) k) → (t : Bool) → are_both_marked ones others n ≡ t → is_marked (cond t (mark_each graph (parents_at graph n) (parents_of_both graph ones others n)) (parents_of_both graph ones others n)) k ≡ true → HasChild graph ones others (suc n) k
+    at : (is_marked (parents_of_both graph ones others n) k ≡ true → HasChild graph ones others (suc n) k) → (t : Bool)
+        → are_both_marked ones others n ≡ t
+        → is_marked (cond t (mark_each graph (parents_at graph n) (parents_of_both graph ones others n)) (parents_of_both graph ones others n)) k ≡ true
+        → HasChild graph ones others (suc n) k
     at rest false both e = rest e
     at rest true both e = last (mark_each_only graph (parents_at graph n) (parents_of_both graph ones others n) k e)
       where
-        last : (is_marked (parents_of_both graph ones others n) k ≡ true) ⊎ MarkedBy graph (parents_at graph n) k → HasChild graph ones others (suc n) k
+        last : (is_marked (parents_of_both graph ones others n) k ≡ true) ⊎ MarkedBy graph (parents_at graph n) k
+            → HasChild graph ones others (suc n) k
         last (inl was) = rest was
         last (inr by) = record { child = n; before = omega arith; common = both; by = by }
 
-parents_all : (graph : List Node) (ones others : List Bool) (n k child : ℕ) (id : List ℕ) → k < length graph → child < n → are_both_marked ones others child ≡ true → Contains (parents_at graph child) id → place_from 0 graph id ≡ Some k → is_marked (parents_of_both graph ones others n) k ≡ true
+parents_all : (graph : List Node) (ones others : List Bool) (n k child : ℕ) (id : List ℕ) → k < length graph → child < n
+    → are_both_marked ones others child ≡ true → Contains (parents_at graph child) id → place_from 0 graph id ≡ Some k
+    → is_marked (parents_of_both graph ones others n) k ≡ true
 parents_all graph ones others zero k child id l b common c e = absurd (omega arith)
-parents_all graph ones others (suc n) k child id l b common c e = at (λ b. parents_all graph ones others n k child id l b common c e) (eqb child n) refl (are_both_marked ones others n) refl
+parents_all graph ones others (suc n) k child id l b common c e =
+    at (λ b. parents_all graph ones others n k child id l b common c e) (eqb child n) refl (are_both_marked ones others n) refl
   where
-    at : (child < n → is_marked (parents_of_both graph ones others n) k ≡ true) → (s : Bool) → eqb child n ≡ s → (t : Bool) → are_both_marked ones others n ≡ t → is_marked (cond t (mark_each graph (parents_at graph n) (parents_of_both graph ones others n)) (parents_of_both graph ones others n)) k ≡ true
+    at : (child < n → is_marked (parents_of_both graph ones others n) k ≡ true) → (s : Bool) → eqb child n ≡ s → (t : Bool)
+        → are_both_marked ones others n ≡ t
+        → is_marked (cond t (mark_each graph (parents_at graph n) (parents_of_both graph ones others n)) (parents_of_both graph ones others n)) k ≡ true
     at rest true s true t =
         let is : child ≡ n = (Decides-eqb child n).0 s in
         mark_each_marks graph (parents_at graph n) (parents_of_both graph ones others n) k id (omega (arith, length_parents graph ones others n)) (subst (λ (i : ℕ). Contains (parents_at graph i) id) is c) e
@@ -89,26 +100,36 @@ pub record IsLeft (graph : List Node) (ones others without : List Bool) (n : ℕ
   pub apart : not (is_marked without at) ≡ true
   pub is : id_at graph at ≡ id
 
-pub left_only : (graph : List Node) (ones others without : List Bool) (n : ℕ) (id : List ℕ) → Contains (left_of_both graph ones others without n) id → IsLeft graph ones others without n id
+pub left_only : (graph : List Node) (ones others without : List Bool) (n : ℕ) (id : List ℕ) → Contains (left_of_both graph ones others without n) id
+    → IsLeft graph ones others without n id
 left_only graph ones others without zero id c = let none : c.0 < 0 = c.1 in absurd (omega arith)
-left_only graph ones others without (suc n) id c = at (λ c. more (left_only graph ones others without n id c)) (are_both_marked ones others n && not (is_marked without n)) refl c
+left_only graph ones others without (suc n) id c =
+    at (λ c. more (left_only graph ones others without n id c)) (are_both_marked ones others n && not (is_marked without n)) refl c
   where
     more : IsLeft graph ones others without n id → IsLeft graph ones others without (suc n) id
     more h = record { at = h.at; before = omega (arith, h.before); common = h.common; apart = h.apart; is = h.is }
 
-    at : (Contains (left_of_both graph ones others without n) id → IsLeft graph ones others without (suc n) id) → (t : Bool) → (are_both_marked ones others n && not (is_marked without n)) ≡ t → Contains (cond t (left_of_both graph ones others without n ++ id_at graph n ∷ []) (left_of_both graph ones others without n)) id → IsLeft graph ones others without (suc n) id
+    at : (Contains (left_of_both graph ones others without n) id → IsLeft graph ones others without (suc n) id) → (t : Bool)
+        → (are_both_marked ones others n && not (is_marked without n)) ≡ t
+        → Contains (cond t (left_of_both graph ones others without n ++ id_at graph n ∷ []) (left_of_both graph ones others without n)) id
+        → IsLeft graph ones others without (suc n) id
     at rest false t c = rest c
     at rest true t c = last (Contains-push_cases (left_of_both graph ones others without n) (id_at graph n) id c)
       where
         last : Contains (left_of_both graph ones others without n) id ⊎ (id_at graph n ≡ id) → IsLeft graph ones others without (suc n) id
         last (inl c) = rest c
-        last (inr is) = record { at = n; before = omega arith; common = and_first (are_both_marked ones others n) (not (is_marked without n)) t; apart = and_second (are_both_marked ones others n) (not (is_marked without n)) t; is = is }
+        last (inr is) =
+            record { at = n; before = omega arith; common = and_first (are_both_marked ones others n) (not (is_marked without n)) t; apart = and_second (are_both_marked ones others n) (not (is_marked without n)) t; is = is }
 
-left_all : (graph : List Node) (ones others without : List Bool) (n k : ℕ) → k < n → are_both_marked ones others k ≡ true → not (is_marked without k) ≡ true → Contains (left_of_both graph ones others without n) (id_at graph k)
+left_all : (graph : List Node) (ones others without : List Bool) (n k : ℕ) → k < n → are_both_marked ones others k ≡ true
+    → not (is_marked without k) ≡ true → Contains (left_of_both graph ones others without n) (id_at graph k)
 left_all graph ones others without zero k l common apart = absurd (omega arith)
-left_all graph ones others without (suc n) k l common apart = at (λ l. left_all graph ones others without n k l common apart) (eqb k n) refl (are_both_marked ones others n && not (is_marked without n)) refl
+left_all graph ones others without (suc n) k l common apart =
+    at (λ l. left_all graph ones others without n k l common apart) (eqb k n) refl (are_both_marked ones others n && not (is_marked without n)) refl
   where
-    at : (k < n → Contains (left_of_both graph ones others without n) (id_at graph k)) → (s : Bool) → eqb k n ≡ s → (t : Bool) → (are_both_marked ones others n && not (is_marked without n)) ≡ t → Contains (cond t (left_of_both graph ones others without n ++ id_at graph n ∷ []) (left_of_both graph ones others without n)) (id_at graph k)
+    at : (k < n → Contains (left_of_both graph ones others without n) (id_at graph k)) → (s : Bool) → eqb k n ≡ s → (t : Bool)
+        → (are_both_marked ones others n && not (is_marked without n)) ≡ t
+        → Contains (cond t (left_of_both graph ones others without n ++ id_at graph n ∷ []) (left_of_both graph ones others without n)) (id_at graph k)
     at rest true s true t =
         let is : k ≡ n = (Decides-eqb k n).0 s in
         subst (λ (i : ℕ). Contains (left_of_both graph ones others without n ++ id_at graph n ∷ []) (id_at graph i)) (sym is) (Contains-push (left_of_both graph ones others without n) (id_at graph n))
@@ -131,10 +152,13 @@ pub record AreSearched (graph : List Node) (a b : List ℕ) (of_a of_b : List Bo
   pub marks_a : MarkAncestors graph a of_a
   pub marks_b : MarkAncestors graph b of_b
 
-common_marked : (graph : List Node) (a b : List ℕ) (of_a of_b : List Bool) → AreSearched graph a b of_a of_b → (id : List ℕ) (k : ℕ) → place_from 0 graph id ≡ Some k → Ancestors graph a id → Ancestors graph b id → are_both_marked of_a of_b k ≡ true
-common_marked graph a b of_a of_b s id k e in_a in_b = and_both _ _ (marked_ancestor graph a of_a s.first s.marks_a id k e in_a) (marked_ancestor graph b of_b s.first s.marks_b id k e in_b)
+common_marked : (graph : List Node) (a b : List ℕ) (of_a of_b : List Bool) → AreSearched graph a b of_a of_b → (id : List ℕ) (k : ℕ)
+    → place_from 0 graph id ≡ Some k → Ancestors graph a id → Ancestors graph b id → are_both_marked of_a of_b k ≡ true
+common_marked graph a b of_a of_b s id k e in_a in_b =
+    and_both _ _ (marked_ancestor graph a of_a s.first s.marks_a id k e in_a) (marked_ancestor graph b of_b s.first s.marks_b id k e in_b)
 
-left_is_base : (graph : List Node) (a b : List ℕ) (of_a of_b : List Bool) → AreSearched graph a b of_a of_b → (id : List ℕ) → IsLeft graph of_a of_b (parents_of_both graph of_a of_b (length graph)) (length graph) id → IsBase graph a b id
+left_is_base : (graph : List Node) (a b : List ℕ) (of_a of_b : List Bool) → AreSearched graph a b of_a of_b → (id : List ℕ)
+    → IsLeft graph of_a of_b (parents_of_both graph of_a of_b (length graph)) (length graph) id → IsBase graph a b id
 left_is_base graph a b of_a of_b s id left = record {
   of_a = in_a;
   of_b = in_b;
@@ -142,10 +166,12 @@ left_is_base graph a b of_a of_b s id left = record {
 }
   where
     in_a : Ancestors graph a id
-    in_a = subst (Ancestors graph a) left.is ((s.marks_a.each left.at left.before).0 (and_first (is_marked of_a left.at) (is_marked of_b left.at) left.common))
+    in_a =
+        subst (Ancestors graph a) left.is ((s.marks_a.each left.at left.before).0 (and_first (is_marked of_a left.at) (is_marked of_b left.at) left.common))
 
     in_b : Ancestors graph b id
-    in_b = subst (Ancestors graph b) left.is ((s.marks_b.each left.at left.before).0 (and_second (is_marked of_a left.at) (is_marked of_b left.at) left.common))
+    in_b =
+        subst (Ancestors graph b) left.is ((s.marks_b.each left.at left.before).0 (and_second (is_marked of_a left.at) (is_marked of_b left.at) left.common))
 
     best : (other base : List ℕ) → Ancestors graph a other → Ancestors graph b other → Ancestors graph other base → base ≡ id → base ≡ other
     best other _ other_a other_b itself e = refl
@@ -159,7 +185,8 @@ left_is_base graph a b of_a of_b s id left = record {
         let placed_is : place_from 0 graph base ≡ Some left.at = ap (place_from 0 graph) (e ∙ sym left.is) ∙ place_at graph left.at s.first left.before in
         absurd (not_of_not (is_marked (parents_of_both graph of_a of_b (length graph)) left.at) left.apart (parents_all graph of_a of_b (length graph) left.at m base left.before in' common c placed_is))
 
-base_is_left : (graph : List Node) (a b : List ℕ) (of_a of_b : List Bool) → AreSearched graph a b of_a of_b → (id : List ℕ) → IsBase graph a b id → Contains (left_of_both graph of_a of_b (parents_of_both graph of_a of_b (length graph)) (length graph)) id
+base_is_left : (graph : List Node) (a b : List ℕ) (of_a of_b : List Bool) → AreSearched graph a b of_a of_b → (id : List ℕ) → IsBase graph a b id
+    → Contains (left_of_both graph of_a of_b (parents_of_both graph of_a of_b (length graph)) (length graph)) id
 base_is_left graph a b of_a of_b s id base =
     let p = ancestor_placed graph a s.first s.has_a id base.of_a in
     let at = id_placed graph id p.0 p.1 in
@@ -184,5 +211,7 @@ base_is_left graph a b of_a of_b s id base =
         let eq : before.0 ≡ m = cc in
         omega (arith, before.1, eq)
 
-pub left_are_bases : (graph : List Node) (a b : List ℕ) (of_a of_b : List Bool) → AreSearched graph a b of_a of_b → (id : List ℕ) → Contains (left_of_both graph of_a of_b (parents_of_both graph of_a of_b (length graph)) (length graph)) id ↔ IsBase graph a b id
-left_are_bases graph a b of_a of_b s id = (λ c. left_is_base graph a b of_a of_b s id (left_only graph of_a of_b (parents_of_both graph of_a of_b (length graph)) (length graph) id c), base_is_left graph a b of_a of_b s id)
+pub left_are_bases : (graph : List Node) (a b : List ℕ) (of_a of_b : List Bool) → AreSearched graph a b of_a of_b → (id : List ℕ)
+    → Contains (left_of_both graph of_a of_b (parents_of_both graph of_a of_b (length graph)) (length graph)) id ↔ IsBase graph a b id
+left_are_bases graph a b of_a of_b s id =
+    (λ c. left_is_base graph a b of_a of_b s id (left_only graph of_a of_b (parents_of_both graph of_a of_b (length graph)) (length graph) id c), base_is_left graph a b of_a of_b s id)

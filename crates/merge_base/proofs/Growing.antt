@@ -34,8 +34,10 @@ length_more : (xs : List Node) (y : Node) → length (xs ++ y ∷ []) ≡ length
 length_more [] y = refl
 length_more (x ∷ xs) y = let k = length_more xs y in omega (arith, k)
 
-parents_first_more : (nodes : List Node) (node : Node) → ParentsFirst nodes → has nodes node.id ≡ false → first_missing nodes node.parents ≡ None → ParentsFirst (nodes ++ node ∷ [])
-parents_first_more nodes node first new there k d l = elim (eqb k (length nodes)) as (λ t. eqb k (length nodes) ≡ t → (has (take k (nodes ++ node ∷ [])) (get_or (nodes ++ node ∷ []) k d).id ≡ false) × (first_missing (take k (nodes ++ node ∷ [])) (get_or (nodes ++ node ∷ []) k d).parents ≡ None)) [
+parents_first_more : (nodes : List Node) (node : Node) → ParentsFirst nodes → has nodes node.id ≡ false → first_missing nodes node.parents ≡ None
+    → ParentsFirst (nodes ++ node ∷ [])
+parents_first_more nodes node first new there k d l =
+    elim (eqb k (length nodes)) as (λ t. eqb k (length nodes) ≡ t → (has (take k (nodes ++ node ∷ [])) (get_or (nodes ++ node ∷ []) k d).id ≡ false) × (first_missing (take k (nodes ++ node ∷ [])) (get_or (nodes ++ node ∷ []) k d).parents ≡ None)) [
   | true ↦ λ e.
       let same : k ≡ length nodes = (Decides-eqb k (length nodes)).0 e in
       let front : take k (nodes ++ node ∷ []) ≡ nodes = ap (λ (j : ℕ). take j (nodes ++ node ∷ [])) same ∙ take_left nodes node (length nodes) (omega arith) ∙ take_whole nodes in
@@ -62,23 +64,32 @@ not_there : (v : Option ℕ) → is_some v ≡ false → v ≡ None
 not_there None e = refl
 not_there (Some p) e = absurd cc
 
-place_more : (n : ℕ) (nodes : List Node) (node : Node) (id : List ℕ) → place_from n (nodes ++ node ∷ []) id ≡ or_place (place_from n nodes id) (cond (bytes_eq node.id id) (Some (n + length nodes)) None)
+place_more : (n : ℕ) (nodes : List Node) (node : Node) (id : List ℕ)
+    → place_from n (nodes ++ node ∷ []) id ≡ or_place (place_from n nodes id) (cond (bytes_eq node.id id) (Some (n + length nodes)) None)
 place_more n [] node id = let k : n + 0 ≡ n = omega arith in rw k refl
 place_more n (x ∷ nodes) node id = at (place_more (n + 1) nodes node id) (bytes_eq x.id id)
   where
-    at : place_from (n + 1) (nodes ++ node ∷ []) id ≡ or_place (place_from (n + 1) nodes id) (cond (bytes_eq node.id id) (Some (n + 1 + length nodes)) None) → (t : Bool) → cond t (Some n) (place_from (n + 1) (nodes ++ node ∷ []) id) ≡ or_place (cond t (Some n) (place_from (n + 1) nodes id)) (cond (bytes_eq node.id id) (Some (n + suc (length nodes))) None)
+    at : place_from (n + 1) (nodes ++ node ∷ []) id ≡ or_place (place_from (n + 1) nodes id) (cond (bytes_eq node.id id) (Some (n + 1 + length nodes)) None)
+        → (t : Bool)
+        → cond t (Some n) (place_from (n + 1) (nodes ++ node ∷ []) id) ≡ or_place (cond t (Some n) (place_from (n + 1) nodes id)) (cond (bytes_eq node.id id) (Some (n + suc (length nodes))) None)
     at rest true = refl
-    at rest false = let k : n + 1 + length nodes ≡ n + suc (length nodes) = omega arith in rest ∙ ap (λ (m : ℕ). or_place (place_from (n + 1) nodes id) (cond (bytes_eq node.id id) (Some m) None)) k
+    at rest false =
+        let k : n + 1 + length nodes ≡ n + suc (length nodes) = omega arith in rest
+        ∙ ap (λ (m : ℕ). or_place (place_from (n + 1) nodes id) (cond (bytes_eq node.id id) (Some m) None)) k
 
-pub graph_more : (nodes : List Node) (node : Node) (places after : BTreeMap (List ℕ) ℕ) (place : ℕ) → IsGraph nodes places → has nodes node.id ≡ false → first_missing nodes node.parents ≡ None → length nodes < limit → place ≡ length nodes
+pub graph_more : (nodes : List Node) (node : Node) (places after : BTreeMap (List ℕ) ℕ) (place : ℕ) → IsGraph nodes places → has nodes node.id ≡ false
+    → first_missing nodes node.parents ≡ None → length nodes < limit → place ≡ length nodes
     → ((id : List ℕ) → get (slice_cmp nat_cmp) after id ≡ cond (is_at (slice_cmp nat_cmp node.id) id) (Some place) (get (slice_cmp nat_cmp) places id)) → IsGraph (nodes ++ node ∷ []) after
 graph_more nodes node places after place was new there room is puts = record {
   parents_first = parents_first_more nodes node was.parents_first new there;
   small = omega (arith, length_more nodes node);
-  placed = λ id. puts id ∙ ap (λ (b : Bool). cond b (Some place) (get (slice_cmp nat_cmp) places id)) (is_eq-slice_cmp node.id id) ∙ at id (bytes_eq node.id id) refl ∙ sym (place_more 0 nodes node id);
+  placed =
+      λ id. puts id ∙ ap (λ (b : Bool). cond b (Some place) (get (slice_cmp nat_cmp) places id)) (is_eq-slice_cmp node.id id)
+      ∙ at id (bytes_eq node.id id) refl ∙ sym (place_more 0 nodes node id);
 }
   where
-    at : (id : List ℕ) (t : Bool) → bytes_eq node.id id ≡ t → cond (bytes_eq node.id id) (Some place) (get (slice_cmp nat_cmp) places id) ≡ or_place (place_from 0 nodes id) (cond (bytes_eq node.id id) (Some (0 + length nodes)) None)
+    at : (id : List ℕ) (t : Bool) → bytes_eq node.id id ≡ t
+        → cond (bytes_eq node.id id) (Some place) (get (slice_cmp nat_cmp) places id) ≡ or_place (place_from 0 nodes id) (cond (bytes_eq node.id id) (Some (0 + length nodes)) None)
     at id true e =
         let same : node.id ≡ id = (bytes_eq-Decides node.id id).0 e in
         let none : place_from 0 nodes id ≡ None = not_there (place_from 0 nodes id) (place_has 0 nodes id ∙ ap (has nodes) (sym same) ∙ new) in

@@ -19,7 +19,8 @@ use Rattle.merge_base.proofs.Best.{AreSearched, left_are_bases, left_only}
 
 none_passes : (p : List ℕ → Bool) (xs : List (List ℕ)) → ((x : List ℕ) → Contains xs x → p x ≡ false) → list_any p xs ≡ false
 none_passes p [] each = refl
-none_passes p (x ∷ xs) each = rw (each x (0, omega arith, refl)) (none_passes p xs (λ y c. let l : c.0 < length xs = c.1 in each y (suc c.0, omega arith, c.2)))
+none_passes p (x ∷ xs) each =
+    rw (each x (0, omega arith, refl)) (none_passes p xs (λ y c. let l : c.0 < length xs = c.1 in each y (suc c.0, omega arith, c.2)))
 
 differ : (a b : List ℕ) → a ≢ b → bytes_eq a b ≡ false
 differ a b ne = at (bytes_eq a b) refl
@@ -39,9 +40,11 @@ none_distinct : IsDistinct bytes_eq []
 unfolding IsDistinct
 none_distinct = tt
 
-left_distinct : (graph : List Node) (ones others without : List Bool) → ParentsFirst graph → (n : ℕ) → n ≤ length graph → IsDistinct bytes_eq (left_of_both graph ones others without n)
+left_distinct : (graph : List Node) (ones others without : List Bool) → ParentsFirst graph → (n : ℕ) → n ≤ length graph
+    → IsDistinct bytes_eq (left_of_both graph ones others without n)
 left_distinct graph ones others without first zero l = none_distinct
-left_distinct graph ones others without first (suc n) l = at (left_distinct graph ones others without first n (omega arith)) (are_both_marked ones others n && not (is_marked without n))
+left_distinct graph ones others without first (suc n) l =
+    at (left_distinct graph ones others without first n (omega arith)) (are_both_marked ones others n && not (is_marked without n))
   where
     new : (x : List ℕ) → Contains (left_of_both graph ones others without n) x → bytes_eq (id_at graph n) x ≡ false
     new x c =
@@ -52,18 +55,24 @@ left_distinct graph ones others without first (suc n) l = at (left_distinct grap
         let e : n ≡ was.at = cc in
         omega (arith, e, was.before))
 
-    at : IsDistinct bytes_eq (left_of_both graph ones others without n) → (t : Bool) → IsDistinct bytes_eq (cond t (left_of_both graph ones others without n ++ id_at graph n ∷ []) (left_of_both graph ones others without n))
-    at rest true = IsDistinct-push nat_list_eq_equiv (left_of_both graph ones others without n) (id_at graph n) rest (none_passes (bytes_eq (id_at graph n)) (left_of_both graph ones others without n) new)
+    at : IsDistinct bytes_eq (left_of_both graph ones others without n) → (t : Bool)
+        → IsDistinct bytes_eq (cond t (left_of_both graph ones others without n ++ id_at graph n ∷ []) (left_of_both graph ones others without n))
+    at rest true =
+        IsDistinct-push nat_list_eq_equiv (left_of_both graph ones others without n) (id_at graph n) rest (none_passes (bytes_eq (id_at graph n)) (left_of_both graph ones others without n) new)
     at rest false = rest
 
-rising : (xs : List (List ℕ)) → IsSorted (slice_cmp nat_cmp) xs → IsDistinct bytes_eq xs → (j k : ℕ) (d : List ℕ) → j < k → k < length xs → is_less (get_or xs j d) (get_or xs k d) ≡ true
-rising xs sorted apart j k d l in' = ap is_lt (Less-from_sorted (slice_cmp nat_cmp) xs j k d (sorted_from_all_adjacent nat_list_cmp_total xs [] next) l in')
+rising : (xs : List (List ℕ)) → IsSorted (slice_cmp nat_cmp) xs → IsDistinct bytes_eq xs → (j k : ℕ) (d : List ℕ) → j < k → k < length xs
+    → is_less (get_or xs j d) (get_or xs k d) ≡ true
+rising xs sorted apart j k d l in' =
+    ap is_lt (Less-from_sorted (slice_cmp nat_cmp) xs j k d (sorted_from_all_adjacent nat_list_cmp_total xs [] next) l in')
   where
     next : (k : ℕ) → k + 1 < length xs → slice_cmp nat_cmp (get_or xs k []) (get_or xs (k + 1) []) ≡ Less
     next k l = at (slice_cmp nat_cmp (get_or xs (k + 1) []) (get_or xs k [])) refl
       where
-        at : (o : Ordering) → slice_cmp nat_cmp (get_or xs (k + 1) []) (get_or xs k []) ≡ o → slice_cmp nat_cmp (get_or xs k []) (get_or xs (k + 1) []) ≡ Less
-        at Less e = let s = sorted k [] (omega arith) l in let t : is_lt (slice_cmp nat_cmp (get_or xs (k + 1) []) (get_or xs k [])) ≡ true = ap is_lt e in absurd cc
+        at : (o : Ordering) → slice_cmp nat_cmp (get_or xs (k + 1) []) (get_or xs k []) ≡ o
+            → slice_cmp nat_cmp (get_or xs k []) (get_or xs (k + 1) []) ≡ Less
+        at Less e =
+            let s = sorted k [] (omega arith) l in let t : is_lt (slice_cmp nat_cmp (get_or xs (k + 1) []) (get_or xs k [])) ≡ true = ap is_lt e in absurd cc
         at Equal e =
             let s : bytes_eq (get_or xs (k + 1) []) (get_or xs k []) ≡ true = sym (is_eq-slice_cmp (get_or xs (k + 1) []) (get_or xs k [])) ∙ ap is_eq e in
             let t = apart_from_distinct bytes_eq xs k (k + 1) [] apart (omega arith) l in
@@ -71,9 +80,12 @@ rising xs sorted apart j k d l in' = ap is_lt (Less-from_sorted (slice_cmp nat_c
             absurd cc
         at Greater e = nat_list_cmp_total.antisymm (get_or xs k []) (get_or xs (k + 1) []) ∙ ap ordering_reverse e
 
-pub bases_are : (graph : List Node) (a b : List ℕ) (of_a of_b : List Bool) → AreSearched graph a b of_a of_b → (xs ys : List (List ℕ)) → xs ≡ left_of_both graph of_a of_b (parents_of_both graph of_a of_b (length graph)) (length graph) → IsPermutation xs ys → IsSorted (slice_cmp nat_cmp) ys → AreBases graph a b ys
+pub bases_are : (graph : List Node) (a b : List ℕ) (of_a of_b : List Bool) → AreSearched graph a b of_a of_b → (xs ys : List (List ℕ))
+    → xs ≡ left_of_both graph of_a of_b (parents_of_both graph of_a of_b (length graph)) (length graph) → IsPermutation xs ys
+    → IsSorted (slice_cmp nat_cmp) ys → AreBases graph a b ys
 bases_are graph a b of_a of_b s xs ys is moved sorted = record {
-  order = rising ys sorted (IsDistinct-IsPermutation bytes_eq flips xs ys moved (subst (IsDistinct bytes_eq) (sym is) (left_distinct graph of_a of_b _ s.first (length graph) (omega arith))));
+  order =
+      rising ys sorted (IsDistinct-IsPermutation bytes_eq flips xs ys moved (subst (IsDistinct bytes_eq) (sym is) (left_distinct graph of_a of_b _ s.first (length graph) (omega arith))));
   each = λ id.
       let base = left_are_bases graph a b of_a of_b s id in (
         λ c. base.0 (subst (λ (l : List (List ℕ)). Contains l id) is (Contains-permutation ys xs id (IsPermutation-sym xs ys moved) c)),

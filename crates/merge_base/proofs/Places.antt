@@ -8,7 +8,8 @@ pub place_has : (n : ℕ) (graph : List Node) (id : List ℕ) → is_some (place
 place_has n [] id = refl
 place_has n (node ∷ graph) id = at (place_has (n + 1) graph id) (bytes_eq node.id id)
   where
-    at : is_some (place_from (n + 1) graph id) ≡ has graph id → (t : Bool) → is_some (cond t (Some n) (place_from (n + 1) graph id)) ≡ (t || has graph id)
+    at : is_some (place_from (n + 1) graph id) ≡ has graph id → (t : Bool)
+        → is_some (cond t (Some n) (place_from (n + 1) graph id)) ≡ (t || has graph id)
     at rest true = refl
     at rest false = rest
 
@@ -24,7 +25,8 @@ pub placed : (n : ℕ) (graph : List Node) (id : List ℕ) (place : ℕ) → pla
 placed n [] id place e = absurd cc
 placed n (node ∷ graph) id place e = here (placed (n + 1) graph id place) (bytes_eq node.id id) refl e
   where
-    here : (place_from (n + 1) graph id ≡ Some place → Placed (n + 1) graph id place) → (t : Bool) → bytes_eq node.id id ≡ t → cond t (Some n) (place_from (n + 1) graph id) ≡ Some place → Placed n (node ∷ graph) id place
+    here : (place_from (n + 1) graph id ≡ Some place → Placed (n + 1) graph id place) → (t : Bool) → bytes_eq node.id id ≡ t
+        → cond t (Some n) (place_from (n + 1) graph id) ≡ Some place → Placed n (node ∷ graph) id place
     here rest true is e = let k : n ≡ place = cc in record { at = 0; is = omega arith; within = omega arith; found = λ d. rw is refl; same = λ d. is }
     here rest false is e =
         let r = rest e in
@@ -34,6 +36,7 @@ pub unplaced : (n : ℕ) (graph : List Node) (id : List ℕ) → place_from n gr
 unplaced n [] id e = refl
 unplaced n (node ∷ graph) id e = here (unplaced (n + 1) graph id) (bytes_eq node.id id) e
   where
-    here : (place_from (n + 1) graph id ≡ None → node_at graph id ≡ None) → (t : Bool) → cond t (Some n) (place_from (n + 1) graph id) ≡ None → cond t (Some node) (node_at graph id) ≡ None
+    here : (place_from (n + 1) graph id ≡ None → node_at graph id ≡ None) → (t : Bool) → cond t (Some n) (place_from (n + 1) graph id) ≡ None
+        → cond t (Some node) (node_at graph id) ≡ None
     here rest true e = absurd cc
     here rest false e = rest e

@@ -8,7 +8,8 @@ use Rattle.merge_base.specs.declared.graph.Node.{Node}
 -- the least set that holds a commit and the parents of its members
 pub data Ancestors (graph : List Node) (commit : List ℕ) : List ℕ → Type 0 where
   itself : Ancestors graph commit commit
-  parent_of : (node : Node) (id : List ℕ) → Contains graph node → Ancestors graph commit node.id → Contains node.parents id → Ancestors graph commit id
+  parent_of : (node : Node) (id : List ℕ) → Contains graph node → Ancestors graph commit node.id → Contains node.parents id
+      → Ancestors graph commit id
 
 -- a common ancestor that is no proper ancestor of another
 pub record IsBase (graph : List Node) (a b base : List ℕ) : Type 0 where

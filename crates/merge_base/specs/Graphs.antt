@@ -22,7 +22,8 @@ limit = 1048576
 
 -- each commit is new, and its parents come before it
 abbrev pub ParentsFirst : List Node → Type 0
-ParentsFirst graph = (k : ℕ) (d : Node) → k < length graph → (has (take k graph) (slice_index_or graph k d).id ≡ false) × (first_missing (take k graph) (slice_index_or graph k d).parents ≡ None)
+ParentsFirst graph =
+    (k : ℕ) (d : Node) → k < length graph → (has (take k graph) (slice_index_or graph k d).id ≡ false) × (first_missing (take k graph) (slice_index_or graph k d).parents ≡ None)
 
 -- the place of an id, counted from a number
 abbrev pub place_from : ℕ → List Node → List ℕ → Option ℕ

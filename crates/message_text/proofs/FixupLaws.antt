@@ -48,7 +48,8 @@ all_fixups [] h = refl
 all_fixups (item ∷ after) h =
     ap (list_all (λ later. is_fixup later.kind)) (cond-false _ _ _ (fixup_is_no_squash item.kind h.0)) ∙ and_from _ _ h.0 (all_fixups after h.1)
 
-first_kept : (item : ChainItem) (after : List ChainItem) → is_first item.kind ≡ true → AreFixups after → is_kept_before (false || is_squash item.kind) item after ≡ true
+first_kept : (item : ChainItem) (after : List ChainItem) → is_first item.kind ≡ true → AreFixups after
+    → is_kept_before (false || is_squash item.kind) item after ≡ true
 unfolding is_kept_before
 first_kept item after first h =
     ap (λ b. not b && (is_squash item.kind || list_all (λ later. is_fixup later.kind) (up_to (λ later. is_squash later.kind) after))) (first_is_no_fixup item.kind first)

@@ -89,7 +89,8 @@ text_of-parts [] some = absurd (omega arith)
 text_of-parts (l ∷ ls) some = text_of-joined l ls
 
 pub plain : (text : List ℕ) → text_of (lines text) ≡ text ++ 10 ∷ []
-plain text = text_of-parts (lines text) (omega (arith, length-slice_split is_line_feed text)) ∙ ap (λ t. t ++ 10 ∷ []) (join_with_byte-slice_split 10 text)
+plain text =
+    text_of-parts (lines text) (omega (arith, length-slice_split is_line_feed text)) ∙ ap (λ t. t ++ 10 ∷ []) (join_with_byte-slice_split 10 text)
 
 pub ruleset mark_steps = marked-from
 

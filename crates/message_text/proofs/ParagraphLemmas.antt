@@ -36,11 +36,14 @@ module _ (l : List ℕ) where
 
   more-onto_first : (P : List (List (List ℕ))) → 0 < length P → more (filter has_some (onto_first l P)) ≡ (10 ∷ []) ++ ((l ++ 10 ∷ []) ++ inside P)
   more-onto_first [] some = absurd (omega arith)
-  more-onto_first (h ∷ t) some = ap more (cond-true _ _ _ (has_some-cons l h)) ∙ ap (λ x. 10 ∷ x) (append_assoc (l ++ 10 ∷ []) (text_of h) (more (filter has_some t)))
+  more-onto_first (h ∷ t) some =
+      ap more (cond-true _ _ _ (has_some-cons l h)) ∙ ap (λ x. 10 ∷ x) (append_assoc (l ++ 10 ∷ []) (text_of h) (more (filter has_some t)))
 
   spaced-onto_first : (P : List (List (List ℕ))) → 0 < length P → text_of (spaced (filter has_some (onto_first l P))) ≡ (l ++ 10 ∷ []) ++ inside P
   spaced-onto_first [] some = absurd (omega arith)
-  spaced-onto_first (h ∷ t) some = ap (λ ps. text_of (spaced ps)) (cond-true _ _ _ (has_some-cons l h)) ∙ text_of-spaced (l ∷ h) (filter has_some t) ∙ append_assoc (l ++ 10 ∷ []) (text_of h) (more (filter has_some t))
+  spaced-onto_first (h ∷ t) some =
+      ap (λ ps. text_of (spaced ps)) (cond-true _ _ _ (has_some-cons l h)) ∙ text_of-spaced (l ∷ h) (filter has_some t)
+      ∙ append_assoc (l ++ 10 ∷ []) (text_of h) (more (filter has_some t))
 
 pub some_parts : (ls : List (List ℕ)) → 0 < length (slice_split is_empty ls)
 some_parts ls = omega (arith, length-slice_split is_empty ls)
@@ -79,7 +82,9 @@ spaces (l ∷ ls) =
     (λ fails.
     let e = slice_split-cons_no is_empty l ls fails in
     record {
-      behind = cond-false _ _ _ fails ∙ ap (λ x. (10 ∷ []) ++ ((l ++ 10 ∷ []) ++ x)) after.within ∙ sym (more-onto_first l P some) ∙ ap (λ ps. more (filter has_some ps)) (sym e);
+      behind =
+          cond-false _ _ _ fails ∙ ap (λ x. (10 ∷ []) ++ ((l ++ 10 ∷ []) ++ x)) after.within ∙ sym (more-onto_first l P some)
+          ∙ ap (λ ps. more (filter has_some ps)) (sym e);
       within = cond-false _ _ _ fails ∙ ap (λ x. (l ++ 10 ∷ []) ++ x) after.within ∙ sym (inside-onto_first l P some) ∙ ap inside (sym e);
       start = λ g.
           cond-false _ _ _ fails ∙ ap (λ b. cond b (10 ∷ []) [] ++ ((l ++ 10 ∷ []) ++ spaced_from true false ls)) (and_false g)

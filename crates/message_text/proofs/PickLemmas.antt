@@ -21,7 +21,8 @@ picked_text-close text id ends =
     ap (λ ls. text_of (body text ∷ ls ++ (codes "(cherry picked from commit " ++ encode_lower id ++ codes ")") ∷ [])) (cond-true _ _ _ ends)
     ∙ ap (λ x. (body text ++ 10 ∷ []) ++ x) (append-nil (pick_line id))
 
-pub picked_text-apart : (text id : List ℕ) → has_trailers (body text) ≡ false → picked_text text id ≡ (([] ++ (body text ++ 10 ∷ [])) ++ ([] ++ 10 ∷ [])) ++ pick_line id
+pub picked_text-apart : (text id : List ℕ) → has_trailers (body text) ≡ false
+    → picked_text text id ≡ (([] ++ (body text ++ 10 ∷ [])) ++ ([] ++ 10 ∷ [])) ++ pick_line id
 unfolding picked_text
 picked_text-apart text id fails =
     ap (λ ls. text_of (body text ∷ ls ++ (codes "(cherry picked from commit " ++ encode_lower id ++ codes ")") ∷ [])) (cond-false _ _ _ fails)

@@ -122,5 +122,6 @@ cleaned-clean text =
       ended = ended text;
       no_comment = All-from_recursion _ _ (subst (Each (λ line. is_comment line ≡ false)) (sym e) (no_comments _ each));
       no_blanks = All-from_recursion _ _ (subst (Each (λ line. without_blanks line ≡ line)) (sym e) (trimmed_lines _ each));
-      no_gap = λ front back is. false≢true (sym (gapped front back) ∙ sym (ap gap_free is) ∙ ap gap_free e ∙ free-spaced (kept_paragraphs text) (each_paragraph text));
+      no_gap =
+          λ front back is. false≢true (sym (gapped front back) ∙ sym (ap gap_free is) ∙ ap gap_free e ∙ free-spaced (kept_paragraphs text) (each_paragraph text));
     }

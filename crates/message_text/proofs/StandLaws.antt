@@ -36,10 +36,13 @@ module _ {X : Type 0} (p : X → Bool) (y : X) (passes : p y ≡ true) where
       (cases_Bool (p x))
 
 own_lines-append : (a b : List (List ℕ)) → own_lines (a ++ b) ≡ own_lines a ++ own_lines b
-own_lines-append a b = ap (map without_blanks) (filter-append (λ l. not (is_comment l)) a b) ∙ map-append without_blanks (filter (λ l. not (is_comment l)) a) (filter (λ l. not (is_comment l)) b)
+own_lines-append a b =
+    ap (map without_blanks) (filter-append (λ l. not (is_comment l)) a b)
+    ∙ map-append without_blanks (filter (λ l. not (is_comment l)) a) (filter (λ l. not (is_comment l)) b)
 
 paragraphs-append : (a b : List (List ℕ)) → paragraphs (a ++ [] ∷ b) ≡ paragraphs a ++ paragraphs b
-paragraphs-append a b = ap (filter has_some) (slice_split-append is_empty [] refl a b) ∙ filter-append has_some (slice_split is_empty a) (slice_split is_empty b)
+paragraphs-append a b =
+    ap (filter has_some) (slice_split-append is_empty [] refl a b) ∙ filter-append has_some (slice_split is_empty a) (slice_split is_empty b)
 
 lines-append : (a b : List ℕ) → lines (a ++ 10 ∷ b) ≡ lines a ++ lines b
 lines-append a b = slice_split-append is_line_feed 10 refl a b

@@ -13,7 +13,8 @@ subject_from has_begun [] = []
 subject_from true (l ∷ ls) = cond (is_empty l) [] ((32 ∷ without_blanks l) ++ subject_from true ls)
 subject_from false (l ∷ ls) = cond (is_empty l) (subject_from false ls) (without_blanks l ++ subject_from true ls)
 
-joined-cons : (l : List ℕ) (ls : List (List ℕ)) → join_with_byte 32 (map without_blanks (l ∷ up_to is_empty ls)) ≡ without_blanks l ++ subject_from true ls
+joined-cons : (l : List ℕ) (ls : List (List ℕ))
+    → join_with_byte 32 (map without_blanks (l ∷ up_to is_empty ls)) ≡ without_blanks l ++ subject_from true ls
 joined-cons l [] = sym (append-nil (without_blanks l))
 joined-cons l (m ∷ ls) =
     ⊎_elim

@@ -38,7 +38,8 @@ module _ (l : List ℕ) where
   inside-onto_first d [] some = absurd (omega arith)
   inside-onto_first d (h ∷ t) some = ap (λ b. ends b (filter has_some t)) (sym (and_assoc d (is_trailer_line l) (list_all is_trailer_line h)))
 
-  ends-onto_first : (d : Bool) (P : List (List (List ℕ))) → 0 < length P → ends d (filter has_some (onto_first l P)) ≡ ends_inside (is_trailer_line l) P
+  ends-onto_first : (d : Bool) (P : List (List (List ℕ))) → 0 < length P
+      → ends d (filter has_some (onto_first l P)) ≡ ends_inside (is_trailer_line l) P
   ends-onto_first d [] some = absurd (omega arith)
   ends-onto_first d (h ∷ t) some = ap (ends d) (cond-true _ _ _ (has_some-cons l h))
 
@@ -69,9 +70,12 @@ line_ends (l ∷ ls) =
     (λ fails.
     let e = slice_split-cons_no is_empty l ls fails in
     record {
-      behind = λ d. cond-false _ _ _ fails ∙ after.within (is_trailer_line l) ∙ sym (ends-onto_first l d P some) ∙ ap (λ ps. ends d (filter has_some ps)) (sym e);
+      behind =
+          λ d. cond-false _ _ _ fails ∙ after.within (is_trailer_line l) ∙ sym (ends-onto_first l d P some)
+          ∙ ap (λ ps. ends d (filter has_some ps)) (sym e);
       within = λ d. cond-false _ _ _ fails ∙ after.within (d && is_trailer_line l) ∙ sym (inside-onto_first l d P some) ∙ ap (ends_inside d) (sym e);
-      start = cond-false _ _ _ fails ∙ after.within false ∙ sym (later-onto_first l P some) ∙ ap (λ ps. ends false (drop 1 (filter has_some ps))) (sym e);
+      start =
+          cond-false _ _ _ fails ∙ after.within false ∙ sym (later-onto_first l P some) ∙ ap (λ ps. ends false (drop 1 (filter has_some ps))) (sym e);
     })
     (cases_Bool (is_empty l))
 

@@ -55,7 +55,8 @@ record IsFound (inside : Inside) (folder : List ℕ) (es : List TreeEntry) (row 
   rows_are : rows_of inside folder entry ≡ Ok rows
   has : Contains rows row
 
-found : (inside : Inside) (folder : List ℕ) (es : List TreeEntry) (rows : List Row) (row : Row) → entries_map inside folder es ≡ Ok rows → Contains rows row → IsFound inside folder es row
+found : (inside : Inside) (folder : List ℕ) (es : List TreeEntry) (rows : List Row) (row : Row) → entries_map inside folder es ≡ Ok rows
+    → Contains rows row → IsFound inside folder es row
 unfolding entries_map
 found inside folder [] rows row e (k, lt, is) = absurd (let none = ok_is [] rows e in omega (arith, ap length none))
 found inside folder (d ∷ es) rows row e has =
@@ -72,7 +73,8 @@ record AreKept (inside : Inside) (folder : List ℕ) (e : TreeEntry) (all : List
   rows_are : rows_of inside folder e ≡ Ok rows
   kept : (row : Row) → Contains rows row → Contains all row
 
-kept : (inside : Inside) (folder : List ℕ) (es : List TreeEntry) (rows : List Row) (e : TreeEntry) → entries_map inside folder es ≡ Ok rows → Contains es e → AreKept inside folder e rows
+kept : (inside : Inside) (folder : List ℕ) (es : List TreeEntry) (rows : List Row) (e : TreeEntry) → entries_map inside folder es ≡ Ok rows
+    → Contains es e → AreKept inside folder e rows
 unfolding entries_map
 kept inside folder [] rows e is (k, lt, here) = absurd (omega arith)
 kept inside folder (d ∷ es) rows e is has =
@@ -87,11 +89,13 @@ kept inside folder (d ∷ es) rows e is has =
     ]
 
 -- the entries of a tree whose map was read
-open_is : (inside : Inside) (folder id : List ℕ) (o : Option (List TreeEntry)) (rows : List Row) → opened inside folder id o ≡ Ok rows → (es : List TreeEntry) × (o ≡ Some es) × (entries_map inside folder es ≡ Ok rows)
+open_is : (inside : Inside) (folder id : List ℕ) (o : Option (List TreeEntry)) (rows : List Row) → opened inside folder id o ≡ Ok rows
+    → (es : List TreeEntry) × (o ≡ Some es) × (entries_map inside folder es ≡ Ok rows)
 open_is inside folder id None rows e = absurd cc
 open_is inside folder id (Some es) rows e = at (list_all (λ (d : TreeEntry). is_path_text (below folder d.name)) es) e
   where
-    at : (t : Bool) → cond t (entries_map inside folder es) (Err (BadTree id)) ≡ Ok rows → (others : List TreeEntry) × (Some es ≡ Some others) × (entries_map inside folder others ≡ Ok rows)
+    at : (t : Bool) → cond t (entries_map inside folder es) (Err (BadTree id)) ≡ Ok rows
+        → (others : List TreeEntry) × (Some es ≡ Some others) × (entries_map inside folder others ≡ Ok rows)
     at true e = (es, refl, e)
     at false e = absurd cc
 
@@ -103,7 +107,8 @@ folder_is Link is = absurd cc
 folder_is Gitlink is = absurd cc
 
 -- a chain that begins with a folder
-longer : (w : World) (id : List ℕ) (es : List TreeEntry) (d : TreeEntry) (entry : Entry) (names : List (List ℕ)) → tree_at w id ≡ Some es → Contains es d → is_folder d.mode ≡ true → Leads w d.id names entry → Leads w id (d.name ∷ names) entry
+longer : (w : World) (id : List ℕ) (es : List TreeEntry) (d : TreeEntry) (entry : Entry) (names : List (List ℕ)) → tree_at w id ≡ Some es
+    → Contains es d → is_folder d.mode ≡ true → Leads w d.id names entry → Leads w id (d.name ∷ names) entry
 longer w id es d entry [] is among on leads = absurd leads
 longer w id es d entry (name ∷ names) is among on leads =
     let mode = folder_is d.mode on in
@@ -142,7 +147,8 @@ only_tree w id es others keeps is = some_is es others (sym (kept_tree w id es ke
     some_is a b e = cc
 
 -- and what is led to is read
-pub is_read : (n : ℕ) (w : World) (folder id : List ℕ) (rows : List Row) (names : List (List ℕ)) (entry : Entry) → map_below n w folder id ≡ Ok rows → Leads w id names entry → Contains rows (path_below folder names, entry)
+pub is_read : (n : ℕ) (w : World) (folder id : List ℕ) (rows : List Row) (names : List (List ℕ)) (entry : Entry) → map_below n w folder id ≡ Ok rows
+    → Leads w id names entry → Contains rows (path_below folder names, entry)
 unfolding map_below
 is_read zero w folder id rows names entry e leads = absurd cc
 is_read (suc n) w folder id rows [] entry e leads = absurd leads
@@ -161,13 +167,16 @@ is_read (suc n) w folder id rows (name ∷ next ∷ names) entry e (es, sub, kee
     k.kept (path_below (below folder name) (next ∷ names), entry) (is_read n w (below folder name) sub k.rows (next ∷ names) entry k.rows_are leads)
 
 -- the map of a tree has what chains lead to, and nothing else
-pub row_led_to : (w : World) (id : List ℕ) (rows : List Row) (path : List ℕ) (entry : Entry) → map_at w id ≡ Ok rows → Contains rows (path, entry) → LeadsTo w id path entry
+pub row_led_to : (w : World) (id : List ℕ) (rows : List Row) (path : List ℕ) (entry : Entry) → map_at w id ≡ Ok rows → Contains rows (path, entry)
+    → LeadsTo w id path entry
 unfolding map_at
 row_led_to w id rows path entry e has = led_to 256 w [] id rows (path, entry) e has
 
-pub led_to_row : (w : World) (id : List ℕ) (rows : List Row) (path : List ℕ) (entry : Entry) → map_at w id ≡ Ok rows → LeadsTo w id path entry → Contains rows (path, entry)
+pub led_to_row : (w : World) (id : List ℕ) (rows : List Row) (path : List ℕ) (entry : Entry) → map_at w id ≡ Ok rows → LeadsTo w id path entry
+    → Contains rows (path, entry)
 unfolding map_at
-led_to_row w id rows path entry e leads = subst (λ (p : List ℕ). Contains rows (p, entry)) (sym leads.2) (is_read 256 w [] id rows leads.0 entry e leads.1)
+led_to_row w id rows path entry e leads =
+    subst (λ (p : List ℕ). Contains rows (p, entry)) (sym leads.2) (is_read 256 w [] id rows leads.0 entry e leads.1)
 
 -- ---- the map stays where the files of objects stay
 
@@ -182,7 +191,8 @@ entries_stay inside other on folder (d ∷ es) rows e =
     ∙ ap (λ (r : Result (List Row) MapFault). r >>= λ others. Ok (a.0 ++ others)) (entries_stay inside other on folder es b.0 b.1)
     ∙ b.2
   where
-    first : (t : Bool) (here : List Row) → cond t (inside (below folder d.name) d.id) (Ok (row_of folder d ∷ [])) ≡ Ok here → cond t (other (below folder d.name) d.id) (Ok (row_of folder d ∷ [])) ≡ Ok here
+    first : (t : Bool) (here : List Row) → cond t (inside (below folder d.name) d.id) (Ok (row_of folder d ∷ [])) ≡ Ok here
+        → cond t (other (below folder d.name) d.id) (Ok (row_of folder d ∷ [])) ≡ Ok here
     first true here e = on (below folder d.name) d.id here e
     first false here e = e
 
@@ -192,11 +202,13 @@ opened_stays inside other on folder id None p rows same e = absurd cc
 opened_stays inside other on folder id (Some es) p rows same e =
     ap (opened other folder id) (same es refl) ∙ at (list_all (λ (d : TreeEntry). is_path_text (below folder d.name)) es) e
   where
-    at : (t : Bool) → cond t (entries_map inside folder es) (Err (BadTree id)) ≡ Ok rows → cond t (entries_map other folder es) (Err (BadTree id)) ≡ Ok rows
+    at : (t : Bool) → cond t (entries_map inside folder es) (Err (BadTree id)) ≡ Ok rows
+        → cond t (entries_map other folder es) (Err (BadTree id)) ≡ Ok rows
     at true e = entries_stay inside other on folder es rows e
     at false e = absurd cc
 
-below_stays : (n : ℕ) (old new : World) → ObjectsStay old new → (folder id : List ℕ) (rows : List Row) → map_below n old folder id ≡ Ok rows → map_below n new folder id ≡ Ok rows
+below_stays : (n : ℕ) (old new : World) → ObjectsStay old new → (folder id : List ℕ) (rows : List Row) → map_below n old folder id ≡ Ok rows
+    → map_below n new folder id ≡ Ok rows
 unfolding map_below
 below_stays zero old new stay folder id rows e = absurd cc
 below_stays (suc n) old new stay folder id rows e =

@@ -51,7 +51,8 @@ KeyedParts key value = Then (Literal key) (λ _. Then value (λ x. Then (Literal
 line_fits : AllBytes (10 ∷ [])
 line_fits = (omega arith, tt)
 
-pub keyed_reads : {X : Type 0} (key : List ℕ) (value : X → List ℕ → Type 0) (value_from : List ℕ → Result (X × List ℕ) ℕ) → AllBytes key → Reads value value_from → HasText value → Reads (Keyed key value) (keyed_from key value_from)
+pub keyed_reads : {X : Type 0} (key : List ℕ) (value : X → List ℕ → Type 0) (value_from : List ℕ → Result (X × List ℕ) ℕ) → AllBytes key
+    → Reads value value_from → HasText value → Reads (Keyed key value) (keyed_from key value_from)
 keyed_reads {X} key value value_from fits reads has = reads_same (KeyedParts key value) (Keyed key value) (keyed_from key value_from)
     (λ x text g.
     let v = g.4 in
@@ -66,13 +67,15 @@ keyed_reads {X} key value value_from fits reads has = reads_same (KeyedParts key
     (λ _ _ _. let e = has_end has.0 in (e.0, has.1 ++ e.1, AllBytes-append has.1 e.1 has.2 e.2, (has.0, has.1, e.1, has.3, e.3, refl))))
   where
     ends : (x : X) → Reads (Then (Literal (10 ∷ [])) (λ _. Nothing x)) (then_at (literal_at (10 ∷ [])) (λ _. nothing_at x))
-    ends x = then_reads (Literal (10 ∷ [])) (λ _. Nothing x) (literal_at (10 ∷ [])) (λ _. nothing_at x) (literal_reads (10 ∷ []) line_fits) (λ _ _ _. nothing_reads x) (λ _ _ _. (x, [], tt, (refl, refl)))
+    ends x =
+        then_reads (Literal (10 ∷ [])) (λ _. Nothing x) (literal_at (10 ∷ [])) (λ _. nothing_at x) (literal_reads (10 ∷ []) line_fits) (λ _ _ _. nothing_reads x) (λ _ _ _. (x, [], tt, (refl, refl)))
 
     has_end : (x : X) → HasText (Then (Literal (10 ∷ [])) (λ _. Nothing x))
     has_end x = (x, 10 ∷ [], line_fits, (tt, 10 ∷ [], [], refl, (refl, refl), refl))
 
 keyed_has : {X : Type 0} (key : List ℕ) (value : X → List ℕ → Type 0) → AllBytes key → HasText value → HasText (Keyed key value)
-keyed_has key value fits h = (h.0, line (key ++ h.1), AllBytes-append (key ++ h.1) (10 ∷ []) (AllBytes-append key h.1 fits h.2) line_fits, (h.1, h.3, refl))
+keyed_has key value fits h =
+    (h.0, line (key ++ h.1), AllBytes-append (key ++ h.1) (10 ∷ []) (AllBytes-append key h.1 fits h.2) line_fits, (h.1, h.3, refl))
 
 -- ---- the keys
 
@@ -80,7 +83,8 @@ author : AllBytes (codes "author ")
 author = (omega arith, (omega arith, (omega arith, (omega arith, (omega arith, (omega arith, (omega arith, tt)))))))
 
 committer : AllBytes (codes "committer ")
-committer = (omega arith, (omega arith, (omega arith, (omega arith, (omega arith, (omega arith, (omega arith, (omega arith, (omega arith, (omega arith, tt))))))))))
+committer =
+    (omega arith, (omega arith, (omega arith, (omega arith, (omega arith, (omega arith, (omega arith, (omega arith, (omega arith, (omega arith, tt))))))))))
 
 parent : AllBytes (codes "parent ")
 parent = (omega arith, (omega arith, (omega arith, (omega arith, (omega arith, (omega arith, (omega arith, tt)))))))
@@ -210,7 +214,8 @@ unfolding headers_from
 headers_read = star_reads (λ s. Unit {0}) is_in_line has_header Header (λ s. Message) header_from (λ s rest. message_from rest) headers_star false tt
 
 -- the lines, in the words of the format
-lines_of : (s : Bool) (lines : List (List ℕ)) (m text : List ℕ) → Star has_header Header (λ s. Message) s lines m text → (list_all is_header_line lines ≡ true) × (text ≡ flat_map line lines ++ 10 ∷ m)
+lines_of : (s : Bool) (lines : List (List ℕ)) (m text : List ℕ) → Star has_header Header (λ s. Message) s lines m text
+    → (list_all is_header_line lines ≡ true) × (text ≡ flat_map line lines ++ 10 ∷ m)
 lines_of s [] m text g = (refl, g)
 lines_of s (x ∷ lines) m text g =
     let h = header_of s g.2.0 x g.2.1 in
@@ -232,7 +237,8 @@ are_headers (x ∷ lines) m text g =
     not_true true e = absurd cc
     not_true false e = refl
 
-star_of_lines : (s : Bool) (lines : List (List ℕ)) (m text : List ℕ) → s ≡ true → list_all is_header_line lines ≡ true → text ≡ flat_map line lines ++ 10 ∷ m → Star has_header Header (λ s. Message) s lines m text
+star_of_lines : (s : Bool) (lines : List (List ℕ)) (m text : List ℕ) → s ≡ true → list_all is_header_line lines ≡ true
+    → text ≡ flat_map line lines ++ 10 ∷ m → Star has_header Header (λ s. Message) s lines m text
 star_of_lines s [] m text on all e = e
 star_of_lines s (x ∷ lines) m text on all e =
     let k = and_true (is_header_line x) (list_all is_header_line lines) all in
@@ -256,7 +262,8 @@ Tail t text = (lines : List (List ℕ)) × Headers (lines, t.1) text × (t.0 ≡
 
 tail_reads : ReadsAll Tail tail_from
 unfolding tail_from
-tail_reads = all_mapped Headers Tail headers_from (λ p. (encoding_of p.0, p.1)) (λ p text g. (p.0, g, refl)) (λ t text g. ((g.0, t.1), g.1, ap (λ (o : Option (List ℕ)). (o, t.1)) g.2)) headers_read
+tail_reads =
+    all_mapped Headers Tail headers_from (λ p. (encoding_of p.0, p.1)) (λ p text g. (p.0, g, refl)) (λ t text g. ((g.0, t.1), g.1, ap (λ (o : Option (List ℕ)). (o, t.1)) g.2)) headers_read
 
 abbrev Made : List ℕ → List (List ℕ) → List ℕ → List ℕ → Commit → List ℕ → Type 0
 Made tree parents a k c text = (t : Option (List ℕ) × List ℕ) × Tail t text × (c ≡ made tree parents a k t)
@@ -269,7 +276,8 @@ made_from tree parents a k bytes = tail_from bytes >>= λ t. Ok (made tree paren
 
 made_reads : (tree : List ℕ) (parents : List (List ℕ)) (a k : List ℕ) → ReadsAll (Made tree parents a k) (made_from tree parents a k)
 unfolding made_from
-made_reads tree parents a k = all_mapped Tail (Made tree parents a k) tail_from (λ t. made tree parents a k t) (λ t text g. (t, g, refl)) (λ c text g. (g.0, g.1, g.2)) tail_reads
+made_reads tree parents a k =
+    all_mapped Tail (Made tree parents a k) tail_from (λ t. made tree parents a k t) (λ t text g. (t, g, refl)) (λ c text g. (g.0, g.1, g.2)) tail_reads
 
 made_has : (tree : List ℕ) (parents : List (List ℕ)) (a k : List ℕ) → HasText (Made tree parents a k)
 made_has tree parents a k = (made tree parents a k (None, []), 10 ∷ [], line_fits, ((None, []), ([], refl, refl), refl))
@@ -291,7 +299,8 @@ people_has tree parents =
 
 people_read : (tree : List ℕ) (parents : List (List ℕ)) → ReadsAll (People tree parents) (people_from tree parents)
 unfolding people_from made_from
-people_read tree parents = then_reads_all AuthorLine (λ a. Then CommitterLine (λ k. Made tree parents a k)) author_line_from (λ a. then_all committer_line_from (λ k. made_from tree parents a k)) author_line_reads
+people_read tree parents =
+    then_reads_all AuthorLine (λ a. Then CommitterLine (λ k. Made tree parents a k)) author_line_from (λ a. then_all committer_line_from (λ k. made_from tree parents a k)) author_line_reads
     (λ a _ _. then_reads_all CommitterLine (λ k. Made tree parents a k) committer_line_from (λ k. made_from tree parents a k) committer_line_reads (λ k _ _. made_reads tree parents a k) (λ k _ _. made_has tree parents a k))
     (λ a _ _. rest_has tree parents a)
 
@@ -302,7 +311,8 @@ parents_star tree = record {
   has_last = λ s good. people_has tree s;
   stays_good = λ s x text good g. tt;
   begins = λ s x text g. begins_key is_p 112 (codes "arent ") text (g.0 ++ 10 ∷ []) refl (g.2 ∙ append_assoc (codes "parent ") g.0 (10 ∷ []));
-  begins_last = λ s c text g. others_key is_p 97 (codes "uthor ") text ((g.3.0 ++ 10 ∷ []) ++ g.2) refl (g.5 ∙ ap (λ (t : List ℕ). t ++ g.2) (g.3.2 ∙ append_assoc (codes "author ") g.3.0 (10 ∷ [])) ∙ append_assoc (codes "author ") (g.3.0 ++ 10 ∷ []) g.2);
+  begins_last =
+      λ s c text g. others_key is_p 97 (codes "uthor ") text ((g.3.0 ++ 10 ∷ []) ++ g.2) refl (g.5 ∙ ap (λ (t : List ℕ). t ++ g.2) (g.3.2 ∙ append_assoc (codes "author ") g.3.0 (10 ∷ [])) ∙ append_assoc (codes "author ") (g.3.0 ++ 10 ∷ []) g.2);
 }
 
 abbrev pub Parents : List ℕ → List (List ℕ) × Commit → List ℕ → Type 0
@@ -313,7 +323,8 @@ Behind tree c text = (ids : List (List ℕ)) × Parents tree (ids, c) text
 
 behind_reads : (tree : List ℕ) → ReadsAll (Behind tree) (parents_from tree)
 unfolding parents_from
-behind_reads tree = all_mapped (Parents tree) (Behind tree) (λ bytes. star_at is_p added (λ s. parent_line_from) (people_from tree) (length bytes) [] bytes) (λ p. p.1) (λ p text g. (p.0, g)) (λ c text g. ((g.0, c), g.1, refl))
+behind_reads tree =
+    all_mapped (Parents tree) (Behind tree) (λ bytes. star_at is_p added (λ s. parent_line_from) (people_from tree) (length bytes) [] bytes) (λ p. p.1) (λ p text g. (p.0, g)) (λ c text g. ((g.0, c), g.1, refl))
     (star_reads (λ s. Unit {0}) is_p added (λ s. ParentLine) (People tree) (λ s. parent_line_from) (people_from tree) (parents_star tree) [] tt)
 
 behind_has : (tree : List ℕ) → HasText (Behind tree)
@@ -338,8 +349,10 @@ record Fathers (tree : List ℕ) (before ids : List (List ℕ)) (c : Commit) (te
   people : People tree (before ++ ids) c rest
   text_is : text ≡ flat_map parent_text texts ++ rest
 
-fathers : (tree : List ℕ) (before ids : List (List ℕ)) (c : Commit) (text : List ℕ) → Star added (λ s. ParentLine) (People tree) before ids c text → Fathers tree before ids c text
-fathers tree before [] c text g = record { texts = []; rest = text; spelled = tt; people = subst (λ (s : List (List ℕ)). People tree s c text) (sym (append-nil before)) g; text_is = refl }
+fathers : (tree : List ℕ) (before ids : List (List ℕ)) (c : Commit) (text : List ℕ) → Star added (λ s. ParentLine) (People tree) before ids c text
+    → Fathers tree before ids c text
+fathers tree before [] c text g =
+    record { texts = []; rest = text; spelled = tt; people = subst (λ (s : List (List ℕ)). People tree s c text) (sym (append-nil before)) g; text_is = refl }
 fathers tree before (id ∷ ids) c text g =
     let later = fathers tree (before ++ id ∷ []) ids c g.1 g.3 in
     record {
@@ -347,11 +360,16 @@ fathers tree before (id ∷ ids) c text g =
       rest = later.rest;
       spelled = (g.2.1, later.spelled);
       people = subst (λ (s : List (List ℕ)). People tree s c later.rest) (append_assoc before (id ∷ []) ids) later.people;
-      text_is = g.4 ∙ ap (λ (t : List ℕ). t ++ g.1) g.2.2 ∙ ap (λ (t : List ℕ). parent_text g.2.0 ++ t) later.text_is ∙ sym (append_assoc (parent_text g.2.0) (flat_map parent_text later.texts) later.rest) ∙ ap (λ (t : List ℕ). t ++ later.rest) (sym (flat_map-cons parent_text g.2.0 later.texts));
+      text_is =
+          g.4 ∙ ap (λ (t : List ℕ). t ++ g.1) g.2.2 ∙ ap (λ (t : List ℕ). parent_text g.2.0 ++ t) later.text_is
+          ∙ sym (append_assoc (parent_text g.2.0) (flat_map parent_text later.texts) later.rest)
+          ∙ ap (λ (t : List ℕ). t ++ later.rest) (sym (flat_map-cons parent_text g.2.0 later.texts));
     }
 
-star_of_fathers : (tree : List ℕ) (before ids texts : List (List ℕ)) (c : Commit) (rest text : List ℕ) → SpellIds ids texts → People tree (before ++ ids) c rest → text ≡ flat_map parent_text texts ++ rest → Star added (λ s. ParentLine) (People tree) before ids c text
-star_of_fathers tree before [] [] c rest text spelled people e = subst (λ (t : List ℕ). People tree before c t) (sym e) (subst (λ (s : List (List ℕ)). People tree s c rest) (append-nil before) people)
+star_of_fathers : (tree : List ℕ) (before ids texts : List (List ℕ)) (c : Commit) (rest text : List ℕ) → SpellIds ids texts
+    → People tree (before ++ ids) c rest → text ≡ flat_map parent_text texts ++ rest → Star added (λ s. ParentLine) (People tree) before ids c text
+star_of_fathers tree before [] [] c rest text spelled people e =
+    subst (λ (t : List ℕ). People tree before c t) (sym e) (subst (λ (s : List (List ℕ)). People tree s c rest) (append-nil before) people)
 star_of_fathers tree before [] (t ∷ texts) c rest text spelled people e = absurd spelled
 star_of_fathers tree before (id ∷ ids) [] c rest text spelled people e = absurd spelled
 star_of_fathers tree before (id ∷ ids) (t ∷ texts) c rest text spelled people e = (
@@ -389,7 +407,9 @@ to_commit c bytes g =
       is_committer = who_is k.0 k.3.0 k.3.1;
       are_headers = are_headers t.0 m.0.1 k.2 t.1;
       encoding_is = t.2;
-      text_is = whole ∙ rw (tree, author, committer) (regroup (line (codes "tree " ++ g.3.0)) (flat_map parent_text f.texts) (line (codes "author " ++ a.0)) (line (codes "committer " ++ k.0)) (flat_map line t.0) (10 ∷ m.0.1));
+      text_is =
+          whole
+          ∙ rw (tree, author, committer) (regroup (line (codes "tree " ++ g.3.0)) (flat_map parent_text f.texts) (line (codes "author " ++ a.0)) (line (codes "committer " ++ k.0)) (flat_map line t.0) (10 ∷ m.0.1));
     })
 
 from_commit : (c : Commit) (bytes : List ℕ) → IsCommit c bytes → Parts c bytes
@@ -429,7 +449,8 @@ commit_reads = reads_all_same Parts IsCommit commit_from to_commit from_commit p
 
 -- ---- what the program makes of lines
 
-pub header_ok : (s : Bool) (bytes w rest : List ℕ) → span_at (may_header s) 10 bytes ≡ Ok (w, rest) → eqb (length w) 0 ≡ false → header_from s bytes ≡ Ok (w, rest)
+pub header_ok : (s : Bool) (bytes w rest : List ℕ) → span_at (may_header s) 10 bytes ≡ Ok (w, rest) → eqb (length w) 0 ≡ false
+    → header_from s bytes ≡ Ok (w, rest)
 unfolding header_from
 header_ok s bytes w rest e some =
     let may = span_may (may_header s) 10 bytes w rest (either s) e in
@@ -438,7 +459,8 @@ header_ok s bytes w rest e some =
     let kept = k.1 in
     valued_of (may_header s) (header_value s) 10 bytes w rest (Some w) e (rw (all, some, kept) refl)
 
-pub header_empty : (s : Bool) (bytes w rest : List ℕ) → span_at (may_header s) 10 bytes ≡ Ok (w, rest) → eqb (length w) 0 ≡ true → header_from s bytes ≡ Err (length rest + 1)
+pub header_empty : (s : Bool) (bytes w rest : List ℕ) → span_at (may_header s) 10 bytes ≡ Ok (w, rest) → eqb (length w) 0 ≡ true
+    → header_from s bytes ≡ Err (length rest + 1)
 unfolding header_from
 header_empty s bytes w rest e none = valued_of (may_header s) (header_value s) 10 bytes w rest None e (at (list_all is_in_line w))
   where

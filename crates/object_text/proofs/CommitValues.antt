@@ -18,7 +18,8 @@ use Rattle.seq_base.specs.Ids.{SpellsId}
 use Rattle.object_text.specs.Commits.{line, is_in_line, is_continuation, is_header_line, AreHeaders, continued, encoding_of, SpellIds, is_header_value, IsEncoding, IsCommit, IsCommitValue, encoding_text, commit_text, with_author}
 
 -- lines that continue a header may stand behind bytes of one line
-continued_value : (hs : List (List ℕ)) → list_all is_header_line hs ≡ true → (is_header_value (continued hs) ≡ true) × ((a : List ℕ) → list_all is_in_line a ≡ true → is_header_value (a ++ continued hs) ≡ true)
+continued_value : (hs : List (List ℕ)) → list_all is_header_line hs ≡ true
+    → (is_header_value (continued hs) ≡ true) × ((a : List ℕ) → list_all is_in_line a ≡ true → is_header_value (a ++ continued hs) ≡ true)
 continued_value hs all = (start hs all, λ a plain. plain_value a (continued hs) plain (start hs all))
   where
     plain_value : (a tail : List ℕ) → list_all is_in_line a ≡ true → is_header_value tail ≡ true → is_header_value (a ++ tail) ≡ true
@@ -32,9 +33,11 @@ continued_value hs all = (start hs all, λ a plain. plain_value a (continued hs)
 
     start : (hs : List (List ℕ)) → list_all is_header_line hs ≡ true → is_header_value (continued hs) ≡ true
     start [] all = refl
-    start (h ∷ hs) all = at h (and_true (is_header_line h) (list_all is_header_line hs) all) (start hs (and_true (is_header_line h) (list_all is_header_line hs) all).1) (is_continuation h) refl
+    start (h ∷ hs) all =
+        at h (and_true (is_header_line h) (list_all is_header_line hs) all) (start hs (and_true (is_header_line h) (list_all is_header_line hs) all).1) (is_continuation h) refl
       where
-        at : (h : List ℕ) → (is_header_line h ≡ true) × (list_all is_header_line hs ≡ true) → is_header_value (continued hs) ≡ true → (t : Bool) → is_continuation h ≡ t → is_header_value (cond t (10 ∷ (h ++ continued hs)) []) ≡ true
+        at : (h : List ℕ) → (is_header_line h ≡ true) × (list_all is_header_line hs ≡ true) → is_header_value (continued hs) ≡ true → (t : Bool)
+            → is_continuation h ≡ t → is_header_value (cond t (10 ∷ (h ++ continued hs)) []) ≡ true
         at h lines later false is = refl
         at [] lines later true is = absurd cc
         at (b ∷ h) lines later true is =
@@ -53,7 +56,8 @@ encoding_value (h ∷ hs) all =
     let k = and_true (is_header_line h) (list_all is_header_line hs) all in
     at (starts_with eqb h (codes "encoding ")) (and_true (list_all is_in_line h) (not (eqb (length h) 0)) k.0).0 k.1 (encoding_value hs k.1)
   where
-    at : (t : Bool) → list_all is_in_line h ≡ true → list_all is_header_line hs ≡ true → IsEncoding (encoding_of hs) → IsEncoding (cond t (Some (drop 9 h ++ continued hs)) (encoding_of hs))
+    at : (t : Bool) → list_all is_in_line h ≡ true → list_all is_header_line hs ≡ true → IsEncoding (encoding_of hs)
+        → IsEncoding (cond t (Some (drop 9 h ++ continued hs)) (encoding_of hs))
     at true plain lines later = (continued_value hs lines).1 (drop 9 h) (plain_drop 9 h plain)
     at false plain lines later = later
 
@@ -90,7 +94,8 @@ unfolding first_of rest_of joined
 value_joined [] = refl
 value_joined (b ∷ v) = at (eqb b 10) refl (value_joined v)
   where
-    at : (t : Bool) → eqb b 10 ≡ t → v ≡ first_of v ++ joined (rest_of v) → b ∷ v ≡ cond t [] (b ∷ first_of v) ++ joined (cond t (first_of v ∷ rest_of v) (rest_of v))
+    at : (t : Bool) → eqb b 10 ≡ t → v ≡ first_of v ++ joined (rest_of v)
+        → b ∷ v ≡ cond t [] (b ∷ first_of v) ++ joined (cond t (first_of v ∷ rest_of v) (rest_of v))
     at true is e = let same = eqb-true b 10 is in ap (λ (c : ℕ). c ∷ v) same ∙ ap (λ (t : List ℕ). 10 ∷ t) e
     at false is e = ap (λ (t : List ℕ). b ∷ t) e
 
@@ -132,7 +137,8 @@ rest_continued (b ∷ c ∷ v) good =
         let some = not_zero (length (first_of v)) in
         rw (is, plain, some) (refl, refl)
 
-    at : (t : Bool) → (not t || eqb c 32) ≡ true → AreContinued (rest_of (c ∷ v)) → AreContinued (cond t (first_of (c ∷ v) ∷ rest_of (c ∷ v)) (rest_of (c ∷ v)))
+    at : (t : Bool) → (not t || eqb c 32) ≡ true → AreContinued (rest_of (c ∷ v))
+        → AreContinued (cond t (first_of (c ∷ v) ∷ rest_of (c ∷ v)) (rest_of (c ∷ v)))
     at true space later =
         let l = line_of (eqb-true c 32 space) in
         let one = l.0 in
@@ -143,7 +149,8 @@ rest_continued (b ∷ c ∷ v) good =
 lines_joined : (ls : List (List ℕ)) → 10 ∷ flat_map line ls ≡ joined ls ++ 10 ∷ []
 unfolding joined
 lines_joined [] = refl
-lines_joined (l ∷ ls) = ap (λ (t : List ℕ). 10 ∷ t) (flat_map-cons line l ls ∙ append_assoc l (10 ∷ []) (flat_map line ls) ∙ ap (λ (t : List ℕ). l ++ t) (lines_joined ls) ∙ sym (append_assoc l (joined ls) (10 ∷ [])))
+lines_joined (l ∷ ls) =
+    ap (λ (t : List ℕ). 10 ∷ t) (flat_map-cons line l ls ∙ append_assoc l (10 ∷ []) (flat_map line ls) ∙ ap (λ (t : List ℕ). l ++ t) (lines_joined ls) ∙ sym (append_assoc l (joined ls) (10 ∷ [])))
 
 -- what hex digits say of an id
 pub spells_lower : (id digits : List ℕ) → IsBytes id → length digits ≡ 40 → digits ≡ encode_lower id → SpellsId id (encode_lower id)
@@ -153,7 +160,8 @@ spell_all : (ids : List (List ℕ)) → AllByRecursion (λ id. SpellsId id (enco
 spell_all [] all = tt
 spell_all (id ∷ ids) all = (all.0, spell_all ids all.1)
 
-parent_lines : (ids : List (List ℕ)) → flat_map (λ parent. line (codes "parent " ++ encode_lower parent)) ids ≡ flat_map (λ parent. line (codes "parent " ++ parent)) (map encode_lower ids)
+parent_lines : (ids : List (List ℕ))
+    → flat_map (λ parent. line (codes "parent " ++ encode_lower parent)) ids ≡ flat_map (λ parent. line (codes "parent " ++ parent)) (map encode_lower ids)
 parent_lines [] = refl
 parent_lines (id ∷ ids) =
     flat_map-cons (λ parent. line (codes "parent " ++ encode_lower parent)) id ids ∙ ap (λ (t : List ℕ). line (codes "parent " ++ encode_lower id) ++ t) (parent_lines ids)
@@ -175,9 +183,12 @@ written (Some v) good =
     let value : v ≡ first_of v ++ continued (rest_of v) = value_joined v ∙ ap (λ (t : List ℕ). first_of v ++ t) (sym rest.same) in
     record {
       headers = (codes "encoding " ++ first_of v) ∷ rest_of v;
-      are_headers = (refl, both_true (is_header_line (codes "encoding " ++ first_of v)) (list_all is_header_line (rest_of v)) (both_true (list_all is_in_line (codes "encoding " ++ first_of v)) (not (eqb (length (codes "encoding " ++ first_of v)) 0)) plain (ap not (not_zero _))) all);
+      are_headers =
+          (refl, both_true (is_header_line (codes "encoding " ++ first_of v)) (list_all is_header_line (rest_of v)) (both_true (list_all is_in_line (codes "encoding " ++ first_of v)) (not (eqb (length (codes "encoding " ++ first_of v)) 0)) plain (ap not (not_zero _))) all);
       encoding_is = ap (λ (t : List ℕ). Some t) value;
-      text_is = ap (λ (t : List ℕ). line (codes "encoding " ++ t)) (value_joined v) ∙ regroup (first_of v) (joined (rest_of v)) ∙ ap (λ (t : List ℕ). (codes "encoding " ++ first_of v) ++ t) (sym (lines_joined (rest_of v)))
+      text_is =
+          ap (λ (t : List ℕ). line (codes "encoding " ++ t)) (value_joined v) ∙ regroup (first_of v) (joined (rest_of v))
+          ∙ ap (λ (t : List ℕ). (codes "encoding " ++ first_of v) ++ t) (sym (lines_joined (rest_of v)))
           ∙ sym (append_assoc (codes "encoding " ++ first_of v) (10 ∷ []) (flat_map line (rest_of v))) ∙ sym (flat_map-cons line (codes "encoding " ++ first_of v) (rest_of v));
     }
   where
@@ -185,7 +196,8 @@ written (Some v) good =
     regroup a b = simp append_assoc
 
 -- the text that is written is the commit's
-pub commit_written : (c : Commit) (text : List ℕ) → IsCommitValue c → SpellsId c.tree (encode_lower c.tree) → AllByRecursion (λ id. SpellsId id (encode_lower id)) c.parents → text ≡ commit_text c → IsCommit c text
+pub commit_written : (c : Commit) (text : List ℕ) → IsCommitValue c → SpellsId c.tree (encode_lower c.tree)
+    → AllByRecursion (λ id. SpellsId id (encode_lower id)) c.parents → text ≡ commit_text c → IsCommit c text
 commit_written c text value tree parents e =
     let w = written c.encoding value.encoding in
     let lines = parent_lines c.parents in
@@ -208,7 +220,9 @@ commit_written c text value tree parents e =
 abbrev parent_line : List ℕ → List ℕ
 parent_line parent = line (codes "parent " ++ encode_lower parent)
 
-pub parent_more : (now out old : List ℕ) (ids : List (List ℕ)) (i : ℕ) (id : List ℕ) → i < length ids → id ≡ get_or ids i id → now ≡ out ++ line (codes "parent " ++ encode_lower id) → out ≡ old ++ flat_map (λ parent. line (codes "parent " ++ encode_lower parent)) (take i ids)
+pub parent_more : (now out old : List ℕ) (ids : List (List ℕ)) (i : ℕ) (id : List ℕ) → i < length ids → id ≡ get_or ids i id
+    → now ≡ out ++ line (codes "parent " ++ encode_lower id)
+    → out ≡ old ++ flat_map (λ parent. line (codes "parent " ++ encode_lower parent)) (take i ids)
     → now ≡ old ++ flat_map (λ parent. line (codes "parent " ++ encode_lower parent)) (take (i + 1) ids)
 parent_more now out old ids i id lt is step before =
     let more : take (i + 1) ids ≡ take i ids ++ id ∷ [] = take_more ids i id lt ∙ ap (λ (x : List ℕ). take i ids ++ x ∷ []) (sym is) in
@@ -216,16 +230,19 @@ parent_more now out old ids i id lt is step before =
     step ∙ ap (λ (t : List ℕ). t ++ parent_line id) before ∙ append_assoc old (flat_map parent_line (take i ids)) (parent_line id)
     ∙ ap (λ (t : List ℕ). old ++ t) (ap (λ (t : List ℕ). flat_map parent_line (take i ids) ++ t) (sym last) ∙ sym (flat_map-append parent_line (take i ids) (id ∷ [])) ∙ ap (flat_map parent_line) (sym more))
 
-pub spelled_more : (ids : List (List ℕ)) (i : ℕ) (id : List ℕ) → i < length ids → id ≡ get_or ids i id → SpellsId id (encode_lower id) → AllByRecursion (λ parent. SpellsId parent (encode_lower parent)) (take i ids)
+pub spelled_more : (ids : List (List ℕ)) (i : ℕ) (id : List ℕ) → i < length ids → id ≡ get_or ids i id → SpellsId id (encode_lower id)
+    → AllByRecursion (λ parent. SpellsId parent (encode_lower parent)) (take i ids)
     → AllByRecursion (λ parent. SpellsId parent (encode_lower parent)) (take (i + 1) ids)
 spelled_more ids i id lt is one before =
     subst (λ (t : List (List ℕ)). AllByRecursion (λ parent. SpellsId parent (encode_lower parent)) t) (sym (take_more ids i id lt ∙ ap (λ (x : List ℕ). take i ids ++ x ∷ []) (sym is))) (both (take i ids) before)
   where
-    both : (xs : List (List ℕ)) → AllByRecursion (λ parent. SpellsId parent (encode_lower parent)) xs → AllByRecursion (λ parent. SpellsId parent (encode_lower parent)) (xs ++ id ∷ [])
+    both : (xs : List (List ℕ)) → AllByRecursion (λ parent. SpellsId parent (encode_lower parent)) xs
+        → AllByRecursion (λ parent. SpellsId parent (encode_lower parent)) (xs ++ id ∷ [])
     both [] all = (one, tt)
     both (x ∷ xs) all = (all.0, both xs all.1)
 
-pub parts_written : (start one two three four five six a b c d e f : List ℕ) → start ≡ [] → one ≡ start ++ a → two ≡ one ++ b → three ≡ two ++ c → four ≡ three ++ d → five ≡ four ++ e → six ≡ five ++ f → six ≡ ((((a ++ b) ++ c) ++ d) ++ e) ++ f
+pub parts_written : (start one two three four five six a b c d e f : List ℕ) → start ≡ [] → one ≡ start ++ a → two ≡ one ++ b → three ≡ two ++ c
+    → four ≡ three ++ d → five ≡ four ++ e → six ≡ five ++ f → six ≡ ((((a ++ b) ++ c) ++ d) ++ e) ++ f
 parts_written start one two three four five six a b c d e f p0 p1 p2 p3 p4 p5 p6 =
     p6 ∙ ap (λ (t : List ℕ). t ++ f) (p5 ∙ ap (λ (t : List ℕ). t ++ e) (p4 ∙ ap (λ (t : List ℕ). t ++ d) (p3 ∙ ap (λ (t : List ℕ). t ++ c) (p2 ∙ ap (λ (t : List ℕ). t ++ b) (p1 ∙ ap (λ (t : List ℕ). t ++ a) p0)))))
 

@@ -89,7 +89,8 @@ ids_has m n = let f = front_has 20 in (made m n f.0, f.1, f.2, (f.0, f.1, [], f.
 
 ids_read : (m : Mode) (n : List ℕ) → Reads (Ids m n) (ids_from m n)
 unfolding ids_from
-ids_read m n = then_reads (Front 20) (λ i. Nothing (made m n i)) (front_at 20) (λ i. nothing_at (made m n i)) (front_reads 20) (λ i text g. nothing_reads (made m n i)) (λ i text g. (made m n i, [], tt, (refl, refl)))
+ids_read m n =
+    then_reads (Front 20) (λ i. Nothing (made m n i)) (front_at 20) (λ i. nothing_at (made m n i)) (front_reads 20) (λ i text g. nothing_reads (made m n i)) (λ i text g. (made m n i, [], tt, (refl, refl)))
 
 names_from : List TreeEntry → Mode → List ℕ → Result (TreeEntry × List ℕ) ℕ
 names_from earlier m = then_at (name_from earlier m) (λ n. ids_from m n)
@@ -155,7 +156,8 @@ record Ordered (earlier es : List TreeEntry) : Type 0 where
   order : IsTreeOrder es
   ids : HaveIds es
 
-starred : (earlier es : List TreeEntry) (text : List ℕ) → IsTreeSoFar earlier → Star grown Each (λ s. End) earlier es tt text → Ordered earlier es × (text ≡ tree_text es)
+starred : (earlier es : List TreeEntry) (text : List ℕ) → IsTreeSoFar earlier → Star grown Each (λ s. End) earlier es tt text
+    → Ordered earlier es × (text ≡ tree_text es)
 starred earlier [] text good g = (record { before = tt; order = tt; ids = tt }, g)
 starred earlier (e ∷ es) text good g =
     let follows = g.2.0 in
@@ -166,7 +168,8 @@ starred earlier (e ∷ es) text good g =
       g.4 ∙ rw (g.2.1, later.1) (sym (flat_map-cons entry_text e es)),
     )
 
-follows_all : (earlier : List TreeEntry) (e : TreeEntry) → AllByRecursion (λ d. IsBefore d e) earlier → is_name e.name ≡ true → (is_after (last_key earlier) (key e.mode e.name) ≡ true) × (is_new earlier e.name ≡ true)
+follows_all : (earlier : List TreeEntry) (e : TreeEntry) → AllByRecursion (λ d. IsBefore d e) earlier → is_name e.name ≡ true
+    → (is_after (last_key earlier) (key e.mode e.name) ≡ true) × (is_new earlier e.name ≡ true)
 follows_all [] e all part = (key_some e.mode e.name part, refl)
 follows_all (d ∷ ds) e all part = (sym (less_is (key d.mode d.name) (key e.mode e.name)) ∙ all.0.less, new (d ∷ ds) all)
   where
@@ -210,7 +213,8 @@ begins_rest (b ∷ rest) some = refl
 pub tree_none : (bytes : List ℕ) → TreeLoop bytes [] bytes
 tree_none bytes = loop_none IsTreeSoFar any_byte grown Each (λ s. End) entry_from (λ s rest. end_at rest) is_star [] bytes tt
 
-pub tree_more : (bytes : List ℕ) (es : List TreeEntry) (rest : List ℕ) (e : TreeEntry) (after : List ℕ) → eqb (length rest) 0 ≡ false → entry_from (reverse es) rest ≡ Ok (e, after)
+pub tree_more : (bytes : List ℕ) (es : List TreeEntry) (rest : List ℕ) (e : TreeEntry) (after : List ℕ) → eqb (length rest) 0 ≡ false
+    → entry_from (reverse es) rest ≡ Ok (e, after)
     → TreeLoop bytes es rest → TreeLoop bytes (es ++ e ∷ []) after × (length after < length rest)
 tree_more bytes es rest e after some read l =
     let more = loop_more IsTreeSoFar any_byte grown Each (λ s. End) entry_from (λ s rest. end_at rest) is_star _ es (reverse es) rest e after (begins_rest rest some) read l in
@@ -222,7 +226,8 @@ tree_more bytes es rest e after some read l =
       more.1,
     )
 
-pub tree_err : (bytes : List ℕ) (es : List TreeEntry) (rest : List ℕ) (d : ReadError) → eqb (length rest) 0 ≡ false → Fails d (entry_from (reverse es) rest) → TreeLoop bytes es rest → Fails d (tree_from bytes)
+pub tree_err : (bytes : List ℕ) (es : List TreeEntry) (rest : List ℕ) (d : ReadError) → eqb (length rest) 0 ≡ false
+    → Fails d (entry_from (reverse es) rest) → TreeLoop bytes es rest → Fails d (tree_from bytes)
 unfolding tree_from
 tree_err bytes es rest errors.Memory some read l = tt
 tree_err bytes es rest (errors.Stopped n) some read l =

@@ -33,18 +33,21 @@ read_some (Ok y) x e = cc
 read_some (Err left) x e = absurd cc
 
 -- a reader of a grammar reads exactly what is spelled
-read_is : {X : Type 0} (spells : X → List ℕ → Type 0) (read : List ℕ → Result X ℕ) → ReadsAll spells read → (text : List ℕ) (x : X) → (value_read (read text) ≡ Some x → spells x text) × (spells x text → value_read (read text) ≡ Some x)
+read_is : {X : Type 0} (spells : X → List ℕ → Type 0) (read : List ℕ → Result X ℕ) → ReadsAll spells read → (text : List ℕ) (x : X)
+    → (value_read (read text) ≡ Some x → spells x text) × (spells x text → value_read (read text) ≡ Some x)
 read_is spells read reads text x = (λ e. reads.takes text x (read_some (read text) x e), λ g. ap value_read (reads.again x text g))
 
 pub object_texts : (text : List ℕ) (o : Object) → (object_of text ≡ Some o → IsObject o text) × (IsObject o text → object_of text ≡ Some o)
 unfolding object_of
 object_texts text o = read_is IsObject _ object_reads text o
 
-pub tree_texts : (content : List ℕ) (es : List TreeEntry) → (entries_of content ≡ Some es → IsTree es content) × (IsTree es content → entries_of content ≡ Some es)
+pub tree_texts : (content : List ℕ) (es : List TreeEntry)
+    → (entries_of content ≡ Some es → IsTree es content) × (IsTree es content → entries_of content ≡ Some es)
 unfolding entries_of
 tree_texts content es = read_is IsTree _ tree_reads content es
 
-pub commit_texts : (content : List ℕ) (c : CommitFields) → (commit_of content ≡ Some c → IsCommit c content) × (IsCommit c content → commit_of content ≡ Some c)
+pub commit_texts : (content : List ℕ) (c : CommitFields)
+    → (commit_of content ≡ Some c → IsCommit c content) × (IsCommit c content → commit_of content ≡ Some c)
 unfolding commit_of
 commit_texts content c = read_is IsCommit _ commit_reads content c
 
@@ -52,7 +55,8 @@ pub tag_texts : (content id : List ℕ) → (named_of content ≡ Some id → Is
 unfolding named_of
 tag_texts content id = (to (tagged_from content) refl, from)
   where
-    to : (r : Result (List ℕ × List ℕ) ℕ) → tagged_from content ≡ r → option_map (λ (t : List ℕ × List ℕ). t.0) (value_read r) ≡ Some id → IsTag id content
+    to : (r : Result (List ℕ × List ℕ) ℕ) → tagged_from content ≡ r → option_map (λ (t : List ℕ × List ℕ). t.0) (value_read r) ≡ Some id
+        → IsTag id content
     to (Ok (named, rest)) is e =
         let k = tag_reads.takes content named rest is in
         let t = k.1 in
@@ -104,14 +108,17 @@ kept_object w id o kept =
     (ap (λ (t : Bool). cond t (Some o) None) passes))
 
 -- what an object of a kind is read as is what it spells
-kept_as : {X : Type 0} (kind : Kind) (spells : X → List ℕ → Type 0) (w : World) (id content : List ℕ) (x : X) → object_at w id ≡ Some (record { kind = kind; bytes = content }) → spells x content → Keeps kind spells w id x
-kept_as kind spells w id content x is spelled = record { content = content; object = object_kept w id (record { kind = kind; bytes = content }) is; spelled = spelled }
+kept_as : {X : Type 0} (kind : Kind) (spells : X → List ℕ → Type 0) (w : World) (id content : List ℕ) (x : X)
+    → object_at w id ≡ Some (record { kind = kind; bytes = content }) → spells x content → Keeps kind spells w id x
+kept_as kind spells w id content x is spelled =
+    record { content = content; object = object_kept w id (record { kind = kind; bytes = content }) is; spelled = spelled }
 
 pub tree_kept : (w : World) (id : List ℕ) (es : List TreeEntry) → tree_at w id ≡ Some es → KeepsTree w id es
 unfolding tree_at
 tree_kept w id es e = let o = then_is (object_at w id) (λ (p : Object). entries_if_tree p.kind p.bytes) es e in at o.0.kind o.0.bytes o.1 o.2
   where
-    at : (kind : Kind) (content : List ℕ) → object_at w id ≡ Some (record { kind = kind; bytes = content }) → entries_if_tree kind content ≡ Some es → KeepsTree w id es
+    at : (kind : Kind) (content : List ℕ) → object_at w id ≡ Some (record { kind = kind; bytes = content }) → entries_if_tree kind content ≡ Some es
+        → KeepsTree w id es
     at Tree content is e = kept_as Tree IsTree w id content es is ((tree_texts content es).0 e)
     at Blob content is e = absurd cc
     at Commit content is e = absurd cc
@@ -127,7 +134,8 @@ pub tag_kept : (w : World) (id named : List ℕ) → tag_at w id ≡ Some named 
 unfolding tag_at
 tag_kept w id named e = let o = then_is (object_at w id) (λ (p : Object). named_if_tag p.kind p.bytes) named e in at o.0.kind o.0.bytes o.1 o.2
   where
-    at : (kind : Kind) (content : List ℕ) → object_at w id ≡ Some (record { kind = kind; bytes = content }) → named_if_tag kind content ≡ Some named → KeepsTag w id named
+    at : (kind : Kind) (content : List ℕ) → object_at w id ≡ Some (record { kind = kind; bytes = content }) → named_if_tag kind content ≡ Some named
+        → KeepsTag w id named
     at Tag content is e = kept_as Tag IsTag w id content named is ((tag_texts content named).0 e)
     at Blob content is e = absurd cc
     at Commit content is e = absurd cc
@@ -142,18 +150,21 @@ kept_tag w id named kept =
 -- ---- commits, also through tags
 
 -- a commit is read, or a tag behind whose object one is
-one_step : (behind : List ℕ → Option CommitFields) (w : World) (id : List ℕ) (c : CommitFields) → option_and_then (λ (o : Object). commit_if behind o.kind o.bytes) (object_at w id) ≡ Some c
+one_step : (behind : List ℕ → Option CommitFields) (w : World) (id : List ℕ) (c : CommitFields)
+    → option_and_then (λ (o : Object). commit_if behind o.kind o.bytes) (object_at w id) ≡ Some c
     → KeepsCommit w id c ⊎ ((named : List ℕ) × KeepsTag w id named × (behind named ≡ Some c))
 one_step behind w id c e = let o = then_is (object_at w id) (λ (p : Object). commit_if behind p.kind p.bytes) c e in at o.0.kind o.0.bytes o.1 o.2
   where
     at : (kind : Kind) (content : List ℕ) → object_at w id ≡ Some (record { kind = kind; bytes = content }) → commit_if behind kind content ≡ Some c
         → KeepsCommit w id c ⊎ ((named : List ℕ) × KeepsTag w id named × (behind named ≡ Some c))
     at Commit content is e = inl (kept_as Commit IsCommit w id content c is ((commit_texts content c).0 e))
-    at Tag content is e = let t = then_is (named_of content) behind c e in inr (t.0, kept_as Tag IsTag w id content t.0 is ((tag_texts content t.0).0 t.1), t.2)
+    at Tag content is e =
+        let t = then_is (named_of content) behind c e in inr (t.0, kept_as Tag IsTag w id content t.0 is ((tag_texts content t.0).0 t.1), t.2)
     at Blob content is e = absurd cc
     at Tree content is e = absurd cc
 
-commit_step : (behind : List ℕ → Option CommitFields) (w : World) (id : List ℕ) (c : CommitFields) → KeepsCommit w id c → option_and_then (λ (o : Object). commit_if behind o.kind o.bytes) (object_at w id) ≡ Some c
+commit_step : (behind : List ℕ → Option CommitFields) (w : World) (id : List ℕ) (c : CommitFields) → KeepsCommit w id c
+    → option_and_then (λ (o : Object). commit_if behind o.kind o.bytes) (object_at w id) ≡ Some c
 commit_step behind w id c kept =
     let o : Object = record { kind = Commit; bytes = kept.content } in
     then_some (object_at w id) (λ (p : Object). commit_if behind p.kind p.bytes) o c (kept_object w id o kept.object) ((commit_texts kept.content c).1 kept.spelled)
@@ -167,7 +178,8 @@ tag_step behind w id named c kept e =
 pub commit_kept : (n : ℕ) (w : World) (id : List ℕ) (c : CommitFields) → commit_within n w id ≡ Some c → LeadsToCommit n w id c
 unfolding commit_within LeadsToCommit
 commit_kept zero w id c e = elim (one_step (λ _. None) w id c e) [ inl kept ↦ kept | inr tag ↦ let none = tag.2 in absurd cc ]
-commit_kept (suc n) w id c e = elim (one_step (commit_within n w) w id c e) [ inl kept ↦ inl kept | inr tag ↦ inr (tag.0, tag.1, commit_kept n w tag.0 c tag.2) ]
+commit_kept (suc n) w id c e =
+    elim (one_step (commit_within n w) w id c e) [ inl kept ↦ inl kept | inr tag ↦ inr (tag.0, tag.1, commit_kept n w tag.0 c tag.2) ]
 
 pub kept_commit : (n : ℕ) (w : World) (id : List ℕ) (c : CommitFields) → LeadsToCommit n w id c → commit_within n w id ≡ Some c
 unfolding commit_within LeadsToCommit

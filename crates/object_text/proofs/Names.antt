@@ -40,7 +40,8 @@ is_after (a ∷ as') [] = false
 is_after (a ∷ as') (b ∷ bs) = cond (eqb a b) (is_after as' bs) (ltb a b)
 
 pub less_is : (a b : List ℕ) → is_less a b ≡ is_after a b
-less_is a b = same_from_slice_cmp nat_cmp is_lt is_after refl (λ _ _. refl) (λ _ _. refl) (λ x y xs ys o h. grind (arith, nat_tests)) a b (slice_cmp nat_cmp a b) refl
+less_is a b =
+    same_from_slice_cmp nat_cmp is_lt is_after refl (λ _ _. refl) (λ _ _. refl) (λ x y xs ys o h. grind (arith, nat_tests)) a b (slice_cmp nat_cmp a b) refl
 
 after_itself : (a : List ℕ) → is_after a a ≡ true → ⊥
 after_itself [] e = absurd cc
@@ -66,7 +67,8 @@ after_trans (x ∷ a) (y ∷ b) (z ∷ c) p q = at (after_trans a b c) (eqb x y)
     at later true false false t-is u-is v-is p q = let k = eqb-true x y t-is in let m = ltb-true y z q in lt-ltb x z (omega arith)
     at later false true true t-is u-is v-is p q = absurd (eqb-false x y t-is (eqb-true x z v-is ∙ sym (eqb-true y z u-is)))
     at later false true false t-is u-is v-is p q = let k = eqb-true y z u-is in let m = ltb-true x y p in lt-ltb x z (omega arith)
-    at later false false true t-is u-is v-is p q = let k = eqb-true x z v-is in let m = ltb-true x y p in let n = ltb-true y z q in absurd (omega arith)
+    at later false false true t-is u-is v-is p q =
+        let k = eqb-true x z v-is in let m = ltb-true x y p in let n = ltb-true y z q in absurd (omega arith)
     at later false false false t-is u-is v-is p q = let m = ltb-true x y p in let n = ltb-true y z q in lt-ltb x z (omega arith)
 
 -- nothing that goes on with a text comes before it
@@ -86,7 +88,8 @@ between [] (y ∷ k) c p q = (y, k, refl)
 between (x ∷ w) [] c p q = absurd cc
 between (x ∷ w) (y ∷ k) c p q = at (between w k c) (eqb x y) (eqb y x) refl refl p q
   where
-    at : (is_after w k ≡ true → is_after k (w ++ c ∷ []) ≡ true → (b : ℕ) × (rest : List ℕ) × (k ≡ w ++ b ∷ rest)) → (t u : Bool) → eqb x y ≡ t → eqb y x ≡ u
+    at : (is_after w k ≡ true → is_after k (w ++ c ∷ []) ≡ true → (b : ℕ) × (rest : List ℕ) × (k ≡ w ++ b ∷ rest)) → (t u : Bool) → eqb x y ≡ t
+        → eqb y x ≡ u
         → cond t (is_after w k) (ltb x y) ≡ true → cond u (is_after k (w ++ c ∷ [])) (ltb y x) ≡ true → (b : ℕ) × (rest : List ℕ) × (y ∷ k ≡ (x ∷ w) ++ b ∷ rest)
     at later true true t-is u-is p q = let m = later p q in (m.0, m.1, let same = eqb-true y x u-is in let rest = m.2 in cc)
     at later true false t-is u-is p q = absurd (eqb-false y x u-is (sym (eqb-true x y t-is)))
@@ -100,7 +103,8 @@ rise_front a [] q e = refl
 rise_front [] (b ∷ p) q e = refl
 rise_front (a ∷ s) (b ∷ p) q e = at (rise_front s p q) (eqb a b) e
   where
-    at : (may_rise s (p ++ q) ≡ true → may_rise s p ≡ true) → (t : Bool) → cond t (may_rise s (p ++ q)) (ltb a b) ≡ true → cond t (may_rise s p) (ltb a b) ≡ true
+    at : (may_rise s (p ++ q) ≡ true → may_rise s p ≡ true) → (t : Bool) → cond t (may_rise s (p ++ q)) (ltb a b) ≡ true
+        → cond t (may_rise s p) (ltb a b) ≡ true
     at later true e = later e
     at later false e = e
 
@@ -111,7 +115,8 @@ after_rises [] (b ∷ bs) e = refl
 after_rises (a ∷ s) [] e = refl
 after_rises (a ∷ s) (b ∷ bs) e = at (after_rises s bs) (eqb a b) e
   where
-    at : (is_after s bs ≡ true → may_rise s bs ≡ true) → (t : Bool) → cond t (is_after s bs) (ltb a b) ≡ true → cond t (may_rise s bs) (ltb a b) ≡ true
+    at : (is_after s bs ≡ true → may_rise s bs ≡ true) → (t : Bool) → cond t (is_after s bs) (ltb a b) ≡ true
+        → cond t (may_rise s bs) (ltb a b) ≡ true
     at later true e = later e
     at later false e = e
 
@@ -151,7 +156,8 @@ rise_after a [] m tail fits e long = fill_after a m tail fits long
 rise_after [] (b ∷ p) m tail fits e long = refl
 rise_after (a ∷ s) (b ∷ p) m tail fits e long = at (λ e. rise_after s p m tail fits.1 e (omega arith)) (eqb a b) e
   where
-    at : (may_rise s p ≡ true → is_after s (p ++ (fill m ++ tail)) ≡ true) → (t : Bool) → cond t (may_rise s p) (ltb a b) ≡ true → cond t (is_after s (p ++ (fill m ++ tail))) (ltb a b) ≡ true
+    at : (may_rise s p ≡ true → is_after s (p ++ (fill m ++ tail)) ≡ true) → (t : Bool) → cond t (may_rise s p) (ltb a b) ≡ true
+        → cond t (is_after s (p ++ (fill m ++ tail))) (ltb a b) ≡ true
     at later true e = later e
     at later false e = e
 
@@ -178,7 +184,8 @@ other_length a b lt = at (bytes_eq a b) refl
 new_long : (earlier : List TreeEntry) (w : List ℕ) → total earlier < length w → is_new earlier w ≡ true
 unfolding total
 new_long [] w lt = refl
-new_long (d ∷ ds) w lt = both_true (not (bytes_eq d.name w)) (is_new ds w) (ap not (other_length d.name w (omega arith))) (new_long ds w (omega arith))
+new_long (d ∷ ds) w lt =
+    both_true (not (bytes_eq d.name w)) (is_new ds w) (ap not (other_length d.name w (omega arith))) (new_long ds w (omega arith))
 
 not_special : (w : List ℕ) → 4 < length w → is_special w ≡ false
 not_special w lt =
@@ -238,7 +245,8 @@ not_nul : (b : ℕ) → is_name_byte b ≡ true → b ≡ 0 → ⊥
 not_nul zero h e = cc
 not_nul (suc b) h e = absurd (omega arith)
 
-name_fronts : (earlier : List TreeEntry) (mode : Mode) (front back : List ℕ) (b : ℕ) (x : List ℕ) → name_value earlier mode (front ++ b ∷ back) ≡ Some x
+name_fronts : (earlier : List TreeEntry) (mode : Mode) (front back : List ℕ) (b : ℕ) (x : List ℕ)
+    → name_value earlier mode (front ++ b ∷ back) ≡ Some x
     → (may_name (last_key earlier) (front ++ b ∷ []) ≡ true) × (b ≡ 0 → ⊥)
 name_fronts earlier mode front back b x v =
     let n = (name_is earlier mode (front ++ b ∷ back) x v).1 in
@@ -280,7 +288,8 @@ is_name_word earlier mode good = record {
 
 -- ---- what stands behind the last stands behind all
 
-before_all : (earlier : List TreeEntry) (e : TreeEntry) → IsTreeSoFar earlier → is_after (last_key earlier) (key e.mode e.name) ≡ true → is_new earlier e.name ≡ true → AllByRecursion (λ d. IsBefore d e) earlier
+before_all : (earlier : List TreeEntry) (e : TreeEntry) → IsTreeSoFar earlier → is_after (last_key earlier) (key e.mode e.name) ≡ true
+    → is_new earlier e.name ≡ true → AllByRecursion (λ d. IsBefore d e) earlier
 before_all [] e good after new = tt
 before_all (d ∷ ds) e good after new =
     let n = and_true (not (bytes_eq d.name e.name)) (is_new ds e.name) new in (
@@ -292,13 +301,15 @@ before_all (d ∷ ds) e good after new =
     not_true true h = absurd cc
     not_true false h = refl
 
-    behind : (xs : List TreeEntry) (d e : TreeEntry) → AllByRecursion (λ x. IsBefore x d) xs → is_after (key d.mode d.name) (key e.mode e.name) ≡ true → is_new xs e.name ≡ true → AllByRecursion (λ x. IsBefore x e) xs
+    behind : (xs : List TreeEntry) (d e : TreeEntry) → AllByRecursion (λ x. IsBefore x d) xs → is_after (key d.mode d.name) (key e.mode e.name) ≡ true
+        → is_new xs e.name ≡ true → AllByRecursion (λ x. IsBefore x e) xs
     behind [] d e all after new = tt
     behind (x ∷ xs) d e all after new =
         let n = and_true (not (bytes_eq x.name e.name)) (is_new xs e.name) new in
         let first = sym (less_is (key x.mode x.name) (key d.mode d.name)) ∙ all.0.less in (
           record {
-            less = less_is (key x.mode x.name) (key e.mode e.name) ∙ after_trans (key x.mode x.name) (key d.mode d.name) (key e.mode e.name) first after;
+            less =
+                less_is (key x.mode x.name) (key e.mode e.name) ∙ after_trans (key x.mode x.name) (key d.mode d.name) (key e.mode e.name) first after;
             other = not_true (bytes_eq x.name e.name) n.0;
           },
           behind xs d e all.1 after n.1,
@@ -310,13 +321,15 @@ stays_good earlier e good h = (h.part, before_all earlier e good h.after h.new, 
 -- ---- an entry of the same name
 
 -- every key so far comes before what comes after the last
-all_below : (earlier : List TreeEntry) (k : List ℕ) → IsTreeSoFar earlier → is_after (last_key earlier) k ≡ true → AllByRecursion (λ d. is_after (key d.mode d.name) k ≡ true) earlier
+all_below : (earlier : List TreeEntry) (k : List ℕ) → IsTreeSoFar earlier → is_after (last_key earlier) k ≡ true
+    → AllByRecursion (λ d. is_after (key d.mode d.name) k ≡ true) earlier
 all_below [] k good after = tt
 all_below (d ∷ ds) k good after = (after, behind ds good.1)
   where
     behind : (xs : List TreeEntry) → AllByRecursion (λ x. IsBefore x d) xs → AllByRecursion (λ x. is_after (key x.mode x.name) k ≡ true) xs
     behind [] all = tt
-    behind (x ∷ xs) all = (after_trans (key x.mode x.name) (key d.mode d.name) k (sym (less_is (key x.mode x.name) (key d.mode d.name)) ∙ all.0.less) after, behind xs all.1)
+    behind (x ∷ xs) all =
+        (after_trans (key x.mode x.name) (key d.mode d.name) k (sym (less_is (key x.mode x.name) (key d.mode d.name)) ∙ all.0.less) after, behind xs all.1)
 
 -- what is no folder and stands behind the last has no name of those so far
 pub new_leaf : (earlier : List TreeEntry) (w : List ℕ) → IsTreeSoFar earlier → is_less (last_key earlier) w ≡ true → true ≡ is_new earlier w
@@ -338,11 +351,14 @@ pub record Looking (total : Bool) (w : List ℕ) (earlier : List TreeEntry) : Ty
   pub good : IsTreeSoFar earlier
   pub below : AllByRecursion (λ d. is_after (key d.mode d.name) (w ++ 47 ∷ []) ≡ true) earlier
 
-pub look_first : (earlier : List TreeEntry) (w : List ℕ) → IsTreeSoFar earlier → is_less (last_key earlier) (w ++ 47 ∷ []) ≡ true → Looking (is_new earlier w) w earlier
-look_first earlier w good less = record { same = refl; good = good; below = all_below earlier (w ++ 47 ∷ []) good (sym (less_is (last_key earlier) (w ++ 47 ∷ [])) ∙ less) }
+pub look_first : (earlier : List TreeEntry) (w : List ℕ) → IsTreeSoFar earlier → is_less (last_key earlier) (w ++ 47 ∷ []) ≡ true
+    → Looking (is_new earlier w) w earlier
+look_first earlier w good less =
+    record { same = refl; good = good; below = all_below earlier (w ++ 47 ∷ []) good (sym (less_is (last_key earlier) (w ++ 47 ∷ [])) ∙ less) }
 
 -- where a name does not begin with it, no earlier one is it
-pub look_past : (total : Bool) (w : List ℕ) (e : TreeEntry) (es : List TreeEntry) → bytes_eq e.name w ≡ false → starts_with eqb e.name w ≡ false → Looking total w (e ∷ es) → true ≡ total
+pub look_past : (total : Bool) (w : List ℕ) (e : TreeEntry) (es : List TreeEntry) → bytes_eq e.name w ≡ false → starts_with eqb e.name w ≡ false
+    → Looking total w (e ∷ es) → true ≡ total
 look_past total w e es off past l = sym (both_true (not (bytes_eq e.name w)) (is_new es w) (rw off refl) (none es l.good.1 l.below.1)) ∙ l.same
   where
     begins : (name tail rest : List ℕ) (b : ℕ) → AllBytes tail → length tail ≤ 1 → name ++ tail ≡ w ++ b ∷ rest → starts_with eqb name w ≡ true
@@ -384,7 +400,8 @@ look_past total w e es off past l = sym (both_true (not (bytes_eq e.name w)) (is
         at Link is = leaf (ap (λ (m : Mode). key m d.name) is ∙ name)
         at Gitlink is = leaf (ap (λ (m : Mode). key m d.name) is ∙ name)
 
-    none : (xs : List TreeEntry) → AllByRecursion (λ d. IsBefore d e) xs → AllByRecursion (λ d. is_after (key d.mode d.name) (w ++ 47 ∷ []) ≡ true) xs → is_new xs w ≡ true
+    none : (xs : List TreeEntry) → AllByRecursion (λ d. IsBefore d e) xs → AllByRecursion (λ d. is_after (key d.mode d.name) (w ++ 47 ∷ []) ≡ true) xs
+        → is_new xs w ≡ true
     none [] before below = refl
     none (x ∷ xs) before below = both_true (not (bytes_eq x.name w)) (is_new xs w) (one (bytes_eq x.name w) refl) (none xs before.1 below.1)
       where
@@ -403,7 +420,8 @@ key_some mode w part =
     at (b ∷ v) some = refl
 
 -- the entry at a place is the newest of those up to it
-pub newest : (es : List TreeEntry) (n : ℕ) (d : TreeEntry) → 0 < n → n ≤ length es → reverse (take n es) ≡ get_or es (n - 1) d ∷ reverse (take (n - 1) es)
+pub newest : (es : List TreeEntry) (n : ℕ) (d : TreeEntry) → 0 < n → n ≤ length es
+    → reverse (take n es) ≡ get_or es (n - 1) d ∷ reverse (take (n - 1) es)
 newest es n d some within =
     let m : n - 1 + 1 ≡ n = omega arith in
     let more = take_more es (n - 1) d (omega arith) in

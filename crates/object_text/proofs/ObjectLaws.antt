@@ -66,7 +66,8 @@ content_reads n = record {
   stops = λ bytes left e. stops bytes left (ltb (length bytes) n) refl (ltb n (length bytes)) refl e;
 }
   where
-    takes : (bytes x : List ℕ) (t : Bool) → ltb (length bytes) n ≡ t → (u : Bool) → ltb n (length bytes) ≡ u → cond {A = Result (List ℕ) ℕ} t (Err 0) (cond u (Err (length bytes - n)) (Ok bytes)) ≡ Ok x → Content n x bytes
+    takes : (bytes x : List ℕ) (t : Bool) → ltb (length bytes) n ≡ t → (u : Bool) → ltb n (length bytes) ≡ u
+        → cond {A = Result (List ℕ) ℕ} t (Err 0) (cond u (Err (length bytes - n)) (Ok bytes)) ≡ Ok x → Content n x bytes
     takes bytes x true t-is u u-is e = absurd cc
     takes bytes x false t-is true u-is e = absurd cc
     takes bytes x false t-is false u-is e =
@@ -76,7 +77,8 @@ content_reads n = record {
         let len : length bytes ≡ n = omega arith in
         (ap length (sym same) ∙ len, same)
 
-    stops : (bytes : List ℕ) (left : ℕ) (t : Bool) → ltb (length bytes) n ≡ t → (u : Bool) → ltb n (length bytes) ≡ u → cond {A = Result (List ℕ) ℕ} t (Err 0) (cond u (Err (length bytes - n)) (Ok bytes)) ≡ Err left → Stops (Content n) bytes left
+    stops : (bytes : List ℕ) (left : ℕ) (t : Bool) → ltb (length bytes) n ≡ t → (u : Bool) → ltb n (length bytes) ≡ u
+        → cond {A = Result (List ℕ) ℕ} t (Err 0) (cond u (Err (length bytes - n)) (Ok bytes)) ≡ Err left → Stops (Content n) bytes left
     stops bytes left true t-is u u-is e =
         let short = ltb-true _ _ t-is in
         let z = zeros_are (n - length bytes) in
@@ -85,7 +87,8 @@ content_reads n = record {
           back = [];
           parts = sym (append-nil bytes);
           left_is = cc;
-          on = (bytes ++ zeros (n - length bytes), zeros (n - length bytes), z.1, (omega (arith, length-append bytes (zeros (n - length bytes)), z.0), refl));
+          on =
+              (bytes ++ zeros (n - length bytes), zeros (n - length bytes), z.1, (omega (arith, length-append bytes (zeros (n - length bytes)), z.0), refl));
           off = tt;
         }
     stops bytes left false t-is true u-is e =
@@ -103,7 +106,9 @@ content_reads n = record {
       where
         off : (back : List ℕ) → NoneGoesOn (Content n) (take n bytes) back
         off [] = tt
-        off (b ∷ back) = λ x more g. let low = ltb-false (length bytes) n t-is in absurd (omega (arith, length-take n bytes, ap length g.1, g.0, length-append (take n bytes) (b ∷ more)))
+        off (b ∷ back) =
+            λ x more g. let low =
+                ltb-false (length bytes) n t-is in absurd (omega (arith, length-take n bytes, ap length g.1, g.0, length-append (take n bytes) (b ∷ more)))
     stops bytes left false t-is false u-is e = absurd cc
 
 content_has : (n : ℕ) → HasText (Content n)
@@ -114,7 +119,8 @@ Sized = Then (Word decimal_value 0) Content
 
 sized_reads : ReadsAll Sized sized_from
 unfolding sized_from
-sized_reads = then_reads_all (Word decimal_value 0) Content (decimal_at 0) content_from (decimal_reads 0 (omega arith) refl) (λ n _ _. content_reads n) (λ n _ _. content_has n)
+sized_reads =
+    then_reads_all (Word decimal_value 0) Content (decimal_at 0) content_from (decimal_reads 0 (omega arith) refl) (λ n _ _. content_reads n) (λ n _ _. content_has n)
 
 sized_has : HasText Sized
 sized_has =
@@ -143,7 +149,8 @@ Parts = Then (Word (value_of kinds) 32) Of
 
 parts_read : ReadsAll Parts object_from
 unfolding object_from kind_from of_from
-parts_read = then_reads_all (Word (value_of kinds) 32) Of kind_from of_from (valued_reads (may_of kinds) (value_of kinds) 32 is_kind) (λ k _ _. of_reads k) (λ k _ _. of_has k)
+parts_read =
+    then_reads_all (Word (value_of kinds) 32) Of kind_from of_from (valued_reads (may_of kinds) (value_of kinds) 32 is_kind) (λ k _ _. of_reads k) (λ k _ _. of_has k)
 
 regroup : (kind digits bytes : List ℕ) → (kind ++ 32 ∷ []) ++ ((digits ++ 0 ∷ []) ++ bytes) ≡ kind ++ 32 ∷ digits ++ 0 ∷ bytes
 regroup kind digits bytes = simp append_assoc
@@ -180,7 +187,8 @@ object_reads = reads_all_same Parts IsObject object_from to_object from_object p
 -- ---- what the program makes of a length
 
 -- the number that was read, and not what stands for it
-size_is : (bytes content : List ℕ) (size : ℕ) → capped_decimal_at 0 bytes ≡ Ok (size, content) → (n : ℕ) × (decimal_at 0 bytes ≡ Ok (n, content)) × (size ≡ capped n)
+size_is : (bytes content : List ℕ) (size : ℕ) → capped_decimal_at 0 bytes ≡ Ok (size, content)
+    → (n : ℕ) × (decimal_at 0 bytes ≡ Ok (n, content)) × (size ≡ capped n)
 unfolding capped_decimal_at
 size_is bytes content size e =
     let k = bind_ok (decimal_at 0 bytes) (λ n. Ok (capped n.0, n.1)) (size, content) e in
@@ -200,7 +208,8 @@ sized_is : (bytes content : List ℕ) (n : ℕ) → decimal_at 0 bytes ≡ Ok (n
 unfolding sized_from
 sized_is bytes content n e = ap (λ (r : Result (ℕ × List ℕ) ℕ). r >>= λ x. content_from x.0 x.1) e
 
-pub size_short : (bytes content : List ℕ) (size : ℕ) → capped_decimal_at 0 bytes ≡ Ok (size, content) → length content < size → sized_from bytes ≡ Err 0
+pub size_short : (bytes content : List ℕ) (size : ℕ) → capped_decimal_at 0 bytes ≡ Ok (size, content) → length content < size
+    → sized_from bytes ≡ Err 0
 unfolding content_from
 size_short bytes content size e short =
     let n = size_is bytes content size e in
@@ -208,7 +217,8 @@ size_short bytes content size e short =
     let low : ltb (length content) n.0 ≡ true = lt-ltb (length content) n.0 (omega arith) in
     sized_is bytes content n.0 n.1 ∙ rw low refl
 
-pub size_long : (bytes content : List ℕ) (size : ℕ) → capped_decimal_at 0 bytes ≡ Ok (size, content) → length content < 2 ^ 64 - 1 → size < length content → sized_from bytes ≡ Err (length content - size)
+pub size_long : (bytes content : List ℕ) (size : ℕ) → capped_decimal_at 0 bytes ≡ Ok (size, content) → length content < 2 ^ 64 - 1
+    → size < length content → sized_from bytes ≡ Err (length content - size)
 unfolding content_from
 size_long bytes content size e fits long =
     let n = size_is bytes content size e in
@@ -218,7 +228,8 @@ size_long bytes content size e fits long =
     let high : ltb size (length content) ≡ true = lt-ltb size (length content) long in
     sized_is bytes content n.0 n.1 ∙ ap (λ (m : ℕ). content_from m content) same ∙ rw (low, high) refl
 
-pub size_fits : (bytes content : List ℕ) (size : ℕ) → capped_decimal_at 0 bytes ≡ Ok (size, content) → length content < 2 ^ 64 - 1 → size ≡ length content → sized_from bytes ≡ Ok content
+pub size_fits : (bytes content : List ℕ) (size : ℕ) → capped_decimal_at 0 bytes ≡ Ok (size, content) → length content < 2 ^ 64 - 1
+    → size ≡ length content → sized_from bytes ≡ Ok content
 unfolding content_from
 size_fits bytes content size e fits len =
     let n = size_is bytes content size e in

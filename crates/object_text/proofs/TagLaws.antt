@@ -96,7 +96,8 @@ pub record AreTagLines (id text : List ℕ) : Type 0 where
   pub is_name : list_all is_in_line name ≡ true
   pub text_is : text ≡ line (codes "object " ++ digits) ++ line (codes "type " ++ kind_text kind) ++ line (codes "tag " ++ name)
 
-grouped : (o t g object kind name : List ℕ) → line (o ++ object) ++ (t ++ ((kind ++ 10 ∷ []) ++ (g ++ ((name ++ 10 ∷ []) ++ [])))) ≡ line (o ++ object) ++ line (t ++ kind) ++ line (g ++ name)
+grouped : (o t g object kind name : List ℕ)
+    → line (o ++ object) ++ (t ++ ((kind ++ 10 ∷ []) ++ (g ++ ((name ++ 10 ∷ []) ++ [])))) ≡ line (o ++ object) ++ line (t ++ kind) ++ line (g ++ name)
 grouped o t g object kind name = simp (append_assoc, append-nil)
 
 regroup : (object kind name : List ℕ)

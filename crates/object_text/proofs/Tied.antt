@@ -7,7 +7,8 @@ use Rattle.std.proofs.lemmas.Bool.{eqb-false, ne_eqb, lt-ltb}
 use Rattle.object_text.specs.Trees.{is_name_byte}
 use Rattle.object_text.specs.ReadTrees.{may_rise, may_name, is_tied, HasSeen}
 
-pub untied : (last seen : List ℕ) (b : ℕ) → may_rise last seen ≡ true → is_tied seen last ≡ false → (may_rise last (seen ++ b ∷ []) ≡ true) × (is_tied (seen ++ b ∷ []) last ≡ false)
+pub untied : (last seen : List ℕ) (b : ℕ) → may_rise last seen ≡ true → is_tied seen last ≡ false
+    → (may_rise last (seen ++ b ∷ []) ≡ true) × (is_tied (seen ++ b ∷ []) last ≡ false)
 untied last [] b m t = absurd cc
 untied [] (x ∷ s) b m t = (refl, refl)
 untied (c ∷ l) (x ∷ s) b m t = at (untied l s b) (eqb c x) m t
@@ -18,7 +19,8 @@ untied (c ∷ l) (x ∷ s) b m t = at (untied l s b) (eqb c x) m t
     at later true m t = later m t
     at later false m t = (m, refl)
 
-pub ended : (last seen : List ℕ) (b : ℕ) → is_tied seen last ≡ true → length last ≤ length seen → (may_rise last (seen ++ b ∷ []) ≡ true) × (is_tied (seen ++ b ∷ []) last ≡ false)
+pub ended : (last seen : List ℕ) (b : ℕ) → is_tied seen last ≡ true → length last ≤ length seen
+    → (may_rise last (seen ++ b ∷ []) ≡ true) × (is_tied (seen ++ b ∷ []) last ≡ false)
 ended [] [] b t le = (refl, refl)
 ended (c ∷ l) [] b t le = absurd (omega arith)
 ended [] (x ∷ s) b t le = absurd cc
@@ -61,7 +63,8 @@ and_true false b e = absurd cc
 pub parts_of : (last : List ℕ) (t : Bool) (seen : List ℕ) → HasSeen last t seen → (list_all is_name_byte seen ≡ true) × (may_rise last seen ≡ true)
 parts_of last t seen s = and_true (list_all is_name_byte seen) (may_rise last seen) s.goes_on
 
-pub on : (last seen front : List ℕ) (b : ℕ) (t u : Bool) → HasSeen last u seen → front ≡ seen ++ b ∷ [] → (b ≡ 0 → ⊥) → (b ≡ 47 → ⊥) → b < 256 → may_rise last (seen ++ b ∷ []) ≡ true → t ≡ is_tied (seen ++ b ∷ []) last
+pub on : (last seen front : List ℕ) (b : ℕ) (t u : Bool) → HasSeen last u seen → front ≡ seen ++ b ∷ [] → (b ≡ 0 → ⊥) → (b ≡ 47 → ⊥) → b < 256
+    → may_rise last (seen ++ b ∷ []) ≡ true → t ≡ is_tied (seen ++ b ∷ []) last
     → (true ≡ may_name last front) × (true ≡ true → HasSeen last t front)
 on last seen front b t u s e nul slash fits rise tie =
     let p = (parts_of last u seen s).0 in
@@ -70,8 +73,10 @@ on last seen front b t u s e nul slash fits rise tie =
     let good : may_name last (seen ++ b ∷ []) ≡ true = rw (all, rise) refl in
     subst (λ (f : List ℕ). (true ≡ may_name last f) × (true ≡ true → HasSeen last t f)) (sym e) (sym good, λ _. record { goes_on = good; tied_is = tie })
 
-pub off : (last seen front : List ℕ) (b : ℕ) (t : Bool) → front ≡ seen ++ b ∷ [] → may_rise last (seen ++ b ∷ []) ≡ false → (false ≡ may_name last front) × (false ≡ true → HasSeen last t front)
-off last seen front b t e rise = (sym (ap (may_name last) e ∙ never (list_all is_name_byte (seen ++ b ∷ [])) (may_rise last (seen ++ b ∷ [])) rise), λ k. absurd cc)
+pub off : (last seen front : List ℕ) (b : ℕ) (t : Bool) → front ≡ seen ++ b ∷ [] → may_rise last (seen ++ b ∷ []) ≡ false
+    → (false ≡ may_name last front) × (false ≡ true → HasSeen last t front)
+off last seen front b t e rise =
+    (sym (ap (may_name last) e ∙ never (list_all is_name_byte (seen ++ b ∷ [])) (may_rise last (seen ++ b ∷ [])) rise), λ k. absurd cc)
   where
     never : (x y : Bool) → y ≡ false → (x && y) ≡ false
     never true y h = h

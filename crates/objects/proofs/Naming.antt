@@ -44,18 +44,22 @@ commit_bad bytes at bad = of (commit_from bytes) refl
 
 pub few_parents : (id : Id) (content : Text) (c : Commit) → IsCommit c content → length c.parents ≤ 16 → commit_spelled id content ≡ Ok c
 unfolding commit_spelled
-few_parents id content c is few = let small : nat_lt 16 (length c.parents) ≡ false = grind (arith, nat_tests) in rw (commit_read c content is, small) refl
+few_parents id content c is few =
+    let small : nat_lt 16 (length c.parents) ≡ false = grind (arith, nat_tests) in rw (commit_read c content is, small) refl
 
-many_parents : (id : Id) (content : Text) (c : Commit) → IsCommit c content → 16 < length c.parents → commit_spelled id content ≡ Err (lack.Limit Parents (length c.parents))
+many_parents : (id : Id) (content : Text) (c : Commit) → IsCommit c content → 16 < length c.parents
+    → commit_spelled id content ≡ Err (lack.Limit Parents (length c.parents))
 unfolding commit_spelled
-many_parents id content c is many = let large : nat_lt 16 (length c.parents) ≡ true = grind (arith, nat_tests) in rw (commit_read c content is, large) refl
+many_parents id content c is many =
+    let large : nat_lt 16 (length c.parents) ≡ true = grind (arith, nat_tests) in rw (commit_read c content is, large) refl
 
 no_commit : (id : Id) (content : Text) (at : ℕ) → IsFirstBad IsCommit content at → commit_spelled id content ≡ Err (lack.Object id)
 unfolding commit_spelled
 no_commit id content at bad = rw (commit_bad content at bad) refl
 
 -- what is told of a content that is no commit
-pub commit_fault : (id : Id) (content : Text) (fault : TextFault) → IsCommitFault content fault → Denies {Y = Commit} (halt_of_commit id fault) (commit_spelled id content)
+pub commit_fault : (id : Id) (content : Text) (fault : TextFault) → IsCommitFault content fault
+    → Denies {Y = Commit} (halt_of_commit id fault) (commit_spelled id content)
 commit_fault id content (text.Bad at) bad = no_commit id content at bad
 commit_fault id content (text.Parents count) (c, is, count_is, many) =
     many_parents id content c is (let same = count_is in omega arith) ∙ ap (λ (n : ℕ). Err (lack.Limit Parents n)) count_is
@@ -99,7 +103,8 @@ pub named_ok : (w : World) (id : Id) (o : Object) → object_at w id ≡ Some o 
 unfolding object_named
 named_ok w id o is = rw is refl
 
-pub named_err : (w : World) (id : Id) (fault : ObjectFault) → IsGot w id (Err fault) → GivesObject (Err fault) (object_at w id) → Denies {Y = Object} (halt_of_object id fault) (object_named w id)
+pub named_err : (w : World) (id : Id) (fault : ObjectFault) → IsGot w id (Err fault) → GivesObject (Err fault) (object_at w id)
+    → Denies {Y = Object} (halt_of_object id fault) (object_named w id)
 unfolding object_named
 named_err w id Missing is none = rw (none, size_of_none w id is) refl
 named_err w id (TooLarge size) is none = rw (none, size_told w id size is) refl

@@ -68,7 +68,8 @@ taken w o id kept now is =
     rw (small, held, other) cc
 
 -- an object that was not put
-pub object_is_not_put : (w : World) (o : Object) (fault : ObjectFault) (halt : Halt Lack) (now : World) → HasPut w o (Err fault) now → HasPutHalt fault halt → Turns {X = Id} {Y = Id} (λ id. id) (Err halt) (object_put o w) now
+pub object_is_not_put : (w : World) (o : Object) (fault : ObjectFault) (halt : Halt Lack) (now : World) → HasPut w o (Err fault) now
+    → HasPutHalt fault halt → Turns {X = Id} {Y = Id} (λ id. id) (Err halt) (object_put o w) now
 unfolding object_put put_in
 object_is_not_put w o Missing halt now is told = absurd is
 object_is_not_put w o (TooLarge count) halt now is told =
@@ -88,7 +89,8 @@ object_is_not_put w o Fault halt now is told = rw told tt
 object_is_not_put w o Memory halt now is told = rw told tt
 
 -- what the answer says of the counts of the store
-pub put_halts : (told : Type 0) (old new : Seen) (fault : ObjectFault) (halt : Halt Lack) → HasCause told (object_cause fault) old new → HasPutHalt fault halt → HasCause told (halt_cause halt) old new
+pub put_halts : (told : Type 0) (old new : Seen) (fault : ObjectFault) (halt : Halt Lack) → HasCause told (object_cause fault) old new
+    → HasPutHalt fault halt → HasCause told (halt_cause halt) old new
 put_halts told old new Missing halt cause is = absurd is
 put_halts told old new (TooLarge count) halt cause is = rw is cause
 put_halts told old new (WrongHash id found) halt cause is = rw is cause

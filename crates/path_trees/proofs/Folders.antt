@@ -40,7 +40,8 @@ front_passes : {X : Type 0} (p : X → Bool) (xs : List X) → list_all p (take 
 front_passes p [] = refl
 front_passes p (x ∷ xs) = by (front_passes p xs) (p x) refl
   where
-    by : list_all p (take (prefix_len p xs) xs) ≡ true → (passes : Bool) → p x ≡ passes → list_all p (take (cond passes (1 + prefix_len p xs) 0) (x ∷ xs)) ≡ true
+    by : list_all p (take (prefix_len p xs) xs) ≡ true → (passes : Bool) → p x ≡ passes
+        → list_all p (take (cond passes (1 + prefix_len p xs) 0) (x ∷ xs)) ≡ true
     by later true is =
         let one : 1 + prefix_len p xs ≡ suc (prefix_len p xs) = omega arith in
         rw one (and_from (p x) (list_all p (take (prefix_len p xs) xs)) is later)
@@ -50,7 +51,8 @@ behind_fails : {X : Type 0} (p : X → Bool) (xs ys : List X) (y : X) → drop (
 behind_fails p [] ys y is = absurd cc
 behind_fails p (x ∷ xs) ys y is = by (behind_fails p xs ys y) (p x) refl is
   where
-    by : (drop (prefix_len p xs) xs ≡ y ∷ ys → p y ≡ false) → (passes : Bool) → p x ≡ passes → drop (cond passes (1 + prefix_len p xs) 0) (x ∷ xs) ≡ y ∷ ys → p y ≡ false
+    by : (drop (prefix_len p xs) xs ≡ y ∷ ys → p y ≡ false) → (passes : Bool) → p x ≡ passes
+        → drop (cond passes (1 + prefix_len p xs) 0) (x ∷ xs) ≡ y ∷ ys → p y ≡ false
     by later true at is =
         let one : 1 + prefix_len p xs ≡ suc (prefix_len p xs) = omega arith in
         later (rw one at is)
@@ -108,7 +110,8 @@ are_files [] files = tt
 are_files (e ∷ es) files = (files_of e.1.mode files.0, are_files es files.1)
 
 pub map_ordered : (rows : Entries) → HaveNames rows → IsPathMap rows → IsTreeOrder (tree_entries (listing_of rows))
-map_ordered rows names is = tree_ordered (listing_of rows) (listing_whole rows names (are_files rows is.files)) (subst AllApart (sym (rows_listed rows)) (map_apart rows is))
+map_ordered rows names is =
+    tree_ordered (listing_of rows) (listing_whole rows names (are_files rows is.files)) (subst AllApart (sym (rows_listed rows)) (map_apart rows is))
 
 goes_front : (skip : ℕ) (xs ys : Entries) → GoesOnBehind skip (xs ++ ys) → GoesOnBehind skip xs
 goes_front skip xs ys goes =
@@ -118,7 +121,8 @@ goes_front skip xs ys goes =
       long = all_front (λ e. skip ≤ length e.0) xs ys goes.long;
       short = all_front (λ e. length e.0 ≤ 4095) xs ys goes.short;
       names = all_front (λ e. list_all is_name (parts e.0) ≡ true) (cut skip xs) (cut skip ys) (subst HaveNames split goes.names);
-      is_map = apart_map (cut skip xs) (apart_front (cut skip xs) (cut skip ys) (map_apart (cut skip xs ++ cut skip ys) is_map)) (all_front (λ e. e.1.mode ≡ Folder → ⊥) (cut skip xs) (cut skip ys) is_map.files);
+      is_map =
+          apart_map (cut skip xs) (apart_front (cut skip xs) (cut skip ys) (map_apart (cut skip xs ++ cut skip ys) is_map)) (all_front (λ e. e.1.mode ≡ Folder → ⊥) (cut skip xs) (cut skip ys) is_map.files);
     }
 
 goes_back : (skip : ℕ) (xs ys : Entries) → GoesOnBehind skip (xs ++ ys) → GoesOnBehind skip ys
@@ -129,7 +133,8 @@ goes_back skip xs ys goes =
       long = all_back (λ e. skip ≤ length e.0) xs ys goes.long;
       short = all_back (λ e. length e.0 ≤ 4095) xs ys goes.short;
       names = all_back (λ e. list_all is_name (parts e.0) ≡ true) (cut skip xs) (cut skip ys) (subst HaveNames split goes.names);
-      is_map = apart_map (cut skip ys) (apart_back (cut skip xs) (cut skip ys) (map_apart (cut skip xs ++ cut skip ys) is_map)) (all_back (λ e. e.1.mode ≡ Folder → ⊥) (cut skip xs) (cut skip ys) is_map.files);
+      is_map =
+          apart_map (cut skip ys) (apart_back (cut skip xs) (cut skip ys) (map_apart (cut skip xs ++ cut skip ys) is_map)) (all_back (λ e. e.1.mode ≡ Folder → ⊥) (cut skip xs) (cut skip ys) is_map.files);
     }
 
 -- ---- the rows of one subfolder
@@ -142,18 +147,21 @@ inside_is name path inside =
     (starts_is Decides-eqb path (name ++ 47 ∷ []) (is_inside (name ++ 47 ∷ []) path) refl).0 inside
     ∙ (append_assoc name (47 ∷ []) (drop (length (name ++ 47 ∷ [])) path) ∙ ap (λ (n : ℕ). name ++ 47 ∷ drop n path) (length-append name (47 ∷ [])))
 
-deeper : (name path : List ℕ) (skip next : ℕ) → next ≡ skip + length name + 1 → is_inside (name ++ 47 ∷ []) (drop skip path) ≡ true → drop skip path ≡ name ++ 47 ∷ drop next path
+deeper : (name path : List ℕ) (skip next : ℕ) → next ≡ skip + length name + 1 → is_inside (name ++ 47 ∷ []) (drop skip path) ≡ true
+    → drop skip path ≡ name ++ 47 ∷ drop next path
 deeper name path skip next is inside =
     let more : skip + (length name + 1) ≡ next = omega arith in
     inside_is name (drop skip path) inside ∙ ap (λ (p : List ℕ). name ++ 47 ∷ p) (drop-drop (length name + 1) skip path ∙ ap (λ (n : ℕ). drop n path) more)
 
-all_deeper : (name : List ℕ) (skip next : ℕ) (rows : Entries) → next ≡ skip + length name + 1 → AreInside name skip rows → cut skip rows ≡ map (in_front name) (cut next rows)
+all_deeper : (name : List ℕ) (skip next : ℕ) (rows : Entries) → next ≡ skip + length name + 1 → AreInside name skip rows
+    → cut skip rows ≡ map (in_front name) (cut next rows)
 all_deeper name skip next [] is inside = refl
 all_deeper name skip next (e ∷ es) is inside =
     let both = and_parts (is_inside (name ++ 47 ∷ []) (drop skip e.0)) (list_all (λ d. is_inside (name ++ 47 ∷ []) d.0) (cut skip es)) inside in
     ap (λ (p : List ℕ). (p, e.1) ∷ cut skip es) (deeper name e.0 skip next is both.0) ∙ ap (λ (rows : Entries). (name ++ 47 ∷ drop next e.0, e.1) ∷ rows) (all_deeper name skip next es is both.1)
 
-all_longer : (name : List ℕ) (skip next : ℕ) (rows : Entries) → next ≡ skip + length name + 1 → AreInside name skip rows → AllByRecursion (λ e. skip ≤ length e.0) rows → AllByRecursion (λ e. next ≤ length e.0) rows
+all_longer : (name : List ℕ) (skip next : ℕ) (rows : Entries) → next ≡ skip + length name + 1 → AreInside name skip rows
+    → AllByRecursion (λ e. skip ≤ length e.0) rows → AllByRecursion (λ e. next ≤ length e.0) rows
 all_longer name skip next [] is inside long = tt
 all_longer name skip next (e ∷ es) is inside long =
     let both = and_parts (is_inside (name ++ 47 ∷ []) (drop skip e.0)) (list_all (λ d. is_inside (name ++ 47 ∷ []) d.0) (cut skip es)) inside in
@@ -163,13 +171,15 @@ all_longer name skip next (e ∷ es) is inside long =
 
 inner_names : (name : List ℕ) (rows : Entries) → has_no_slash name ≡ true → HaveNames (map (in_front name) rows) → HaveNames rows
 inner_names name [] none names = tt
-inner_names name (e ∷ es) none names = ((and_parts (is_name name) (list_all is_name (parts e.0)) (sym (ap (list_all is_name) (parts_in_front name e.0 none)) ∙ names.0)).1, inner_names name es none names.1)
+inner_names name (e ∷ es) none names =
+    ((and_parts (is_name name) (list_all is_name (parts e.0)) (sym (ap (list_all is_name) (parts_in_front name e.0 none)) ∙ names.0)).1, inner_names name es none names.1)
 
 inner_files : (name : List ℕ) (rows : Entries) → HoldsFiles (map (in_front name) rows) → HoldsFiles rows
 inner_files name [] files = tt
 inner_files name (e ∷ es) files = (files.0, inner_files name es files.1)
 
-goes_inside : (name : List ℕ) (skip next : ℕ) (rows : Entries) → next ≡ skip + length name + 1 → has_no_slash name ≡ true → AreInside name skip rows → GoesOnBehind skip rows → GoesOnBehind next rows
+goes_inside : (name : List ℕ) (skip next : ℕ) (rows : Entries) → next ≡ skip + length name + 1 → has_no_slash name ≡ true → AreInside name skip rows
+    → GoesOnBehind skip rows → GoesOnBehind next rows
 goes_inside name skip next rows is none inside goes =
     let all = all_deeper name skip next rows is inside in
     let is_map = subst IsPathMap all goes.is_map in
@@ -177,7 +187,8 @@ goes_inside name skip next rows is none inside goes =
       long = all_longer name skip next rows is inside goes.long;
       short = goes.short;
       names = inner_names name (cut next rows) none (subst HaveNames all goes.names);
-      is_map = apart_map (cut next rows) (apart_inner name (cut next rows) (map_apart (map (in_front name) (cut next rows)) is_map)) (inner_files name (cut next rows) is_map.files);
+      is_map =
+          apart_map (cut next rows) (apart_inner name (cut next rows) (map_apart (map (in_front name) (cut next rows)) is_map)) (inner_files name (cut next rows) is_map.files);
     }
 
 -- the folder is listed first, by the rows that stand in it
@@ -188,12 +199,14 @@ pub record HasGroup (name : List ℕ) (skip next : ℕ) (rest inside others : En
   pub fewer : length others < length rest
   pub whole : rest ≡ inside ++ others
 
-some_listed : (name : List ℕ) (rows others : Entries) → 0 < length rows → has_no_slash name ≡ true → IsOther name (listing_of others) → listing_of (map (in_front name) rows ++ others) ≡ OneFolder name (listing_of rows) (listing_of others)
+some_listed : (name : List ℕ) (rows others : Entries) → 0 < length rows → has_no_slash name ≡ true → IsOther name (listing_of others)
+    → listing_of (map (in_front name) rows ++ others) ≡ OneFolder name (listing_of rows) (listing_of others)
 some_listed name [] others some none other = absurd (omega arith)
 some_listed name (e ∷ es) others some none other = folder_listed name e es others none other
 
 inside_again : (name path : List ℕ) → is_inside (name ++ 47 ∷ []) (name ++ 47 ∷ path) ≡ true
-inside_again name path = (starts_is Decides-eqb (name ++ 47 ∷ path) (name ++ 47 ∷ []) (is_inside (name ++ 47 ∷ []) (name ++ 47 ∷ path)) refl).1 path (sym (append_assoc name (47 ∷ []) path))
+inside_again name path =
+    (starts_is Decides-eqb (name ++ 47 ∷ path) (name ++ 47 ∷ []) (is_inside (name ++ 47 ∷ []) (name ++ 47 ∷ path)) refl).1 path (sym (append_assoc name (47 ∷ []) path))
 
 twice : (b : Bool) → not (not b) ≡ b
 twice true = refl
@@ -201,7 +214,8 @@ twice false = refl
 
 all_twice : (test : List ℕ × Entry → Bool) (rows : Entries) → list_all (λ e. not (not (test e))) rows ≡ list_all test rows
 all_twice test [] = refl
-all_twice test (e ∷ es) = ap (λ (b : Bool). b && list_all (λ d. not (not (test d))) es) (twice (test e)) ∙ ap (λ (b : Bool). test e && b) (all_twice test es)
+all_twice test (e ∷ es) =
+    ap (λ (b : Bool). b && list_all (λ d. not (not (test d))) es) (twice (test e)) ∙ ap (λ (b : Bool). test e && b) (all_twice test es)
 
 folder_with_slash : (path : List ℕ) (at : ℕ) → HasSlash path at → take (at + 1) path ≡ take at path ++ 47 ∷ []
 folder_with_slash path at slash =
@@ -267,7 +281,8 @@ module _ (skip at next : ℕ) (path : List ℕ) (rest after : Entries) (x : List
         whole = split;
       }
 
-pub group_at : (skip at next n : ℕ) (path folder : List ℕ) (rest after inside others : Entries) (x : List ℕ × Entry) → rest ≡ x ∷ after → path ≡ drop skip x.0 → position (λ b. b == 47) path ≡ Some at → next ≡ skip + at + 1 → GoesOnBehind skip rest
+pub group_at : (skip at next n : ℕ) (path folder : List ℕ) (rest after inside others : Entries) (x : List ℕ × Entry) → rest ≡ x ∷ after
+    → path ≡ drop skip x.0 → position (λ b. b == 47) path ≡ Some at → next ≡ skip + at + 1 → GoesOnBehind skip rest
     → folder ≡ take (at + 1) path → n ≡ count_inside folder (cut skip rest) → inside ≡ take n rest → others ≡ drop n rest → HasGroup (take at path) skip next rest inside others
 group_at skip at next n path folder rest after inside others x rest_is path_is found next_is goes folder_is n_is inside_is others_is =
     let slash = slash_found path at found in
@@ -311,7 +326,9 @@ way_file told skip rows left after x path entries old now way left_is path_is no
     ap (λ (rs : Entries). listing_of (cut skip rs)) left_is ∙ (ap (λ (p : List ℕ). listing_of ((p, x.1) ∷ cut skip after)) (sym path_is) ∙ file_listed path x.1 (cut skip after) (no_slash_found path none)) in
     record {
       goes = goes_back skip (x ∷ []) after (subst (GoesOnBehind skip) left_is way.goes);
-      entries_are = way.entries_are ∙ (ap (λ (l : Listing). entries ++ tree_entries l) listed ∙ sym (append_assoc entries (record { mode = x.1.mode; name = path; id = x.1.id } ∷ []) (tree_entries (listing_of (cut skip after)))));
+      entries_are =
+          way.entries_are
+          ∙ (ap (λ (l : Listing). entries ++ tree_entries l) listed ∙ sym (append_assoc entries (record { mode = x.1.mode; name = path; id = x.1.id } ∷ []) (tree_entries (listing_of (cut skip after)))));
       trees_are = λ t. way.trees_are t ∙ ap (λ (l : Listing). each_put (folder_trees l) now) listed;
       stays = way.stays;
       keeps = way.keeps;
@@ -321,13 +338,15 @@ way_file told skip rows left after x path entries old now way left_is path_is no
     }
 
 -- the subtree's trees come first
-subtree_first : (w : World) (its others : Listing) (folder : List ℕ) → each_put (folder_trees (OneFolder folder its others)) w ≡ go_on (each_put (folder_trees its ++ tree_entries its ∷ []) w) (λ put. each_put (folder_trees others))
+subtree_first : (w : World) (its others : Listing) (folder : List ℕ)
+    → each_put (folder_trees (OneFolder folder its others)) w ≡ go_on (each_put (folder_trees its ++ tree_entries its ∷ []) w) (λ put. each_put (folder_trees others))
 unfolding folder_trees
 subtree_first w its others folder =
     ap (λ (trees : List (List TreeEntry)). each_put trees w) (sym (append_assoc (folder_trees its) (tree_entries its ∷ []) (folder_trees others))) ∙ each_put-append (folder_trees its ++ tree_entries its ∷ []) (folder_trees others) w
 
 -- the trees of a folder that was put, and of one that was not
-pub was_folder_put : (rows : Entries) (w : World) (id : Id) (now : World) → folder_put rows w ≡ (Ok id, now) → each_put (trees_of rows) w ≡ (Ok unit, now)
+pub was_folder_put : (rows : Entries) (w : World) (id : Id) (now : World) → folder_put rows w ≡ (Ok id, now)
+    → each_put (trees_of rows) w ≡ (Ok unit, now)
 unfolding folder_put
 was_folder_put rows w id now is = by (each_put (trees_of rows) w) is
   where
@@ -335,7 +354,8 @@ was_folder_put rows w id now is = by (each_put (trees_of rows) w) is
     by (Ok all, v) is = ap (λ (u : World). (Ok unit, u)) (same_world is)
     by (Err why, v) is = let never = same_answer is in absurd cc
 
-was_not_put : (rows : Entries) (w : World) (why : Lack) (now : World) → folder_put rows w ≡ (Err why, now) → each_put (trees_of rows) w ≡ (Err why, now)
+was_not_put : (rows : Entries) (w : World) (why : Lack) (now : World) → folder_put rows w ≡ (Err why, now)
+    → each_put (trees_of rows) w ≡ (Err why, now)
 unfolding folder_put
 was_not_put rows w why now is = by (each_put (trees_of rows) w) is
   where
@@ -365,11 +385,13 @@ way_folder told skip next rows left inside others name id entries old now new wa
       ∙ ap (λ (r : Result (Unit {0}) Lack × World). go_on r (λ all. each_put (folder_trees (listing_of (cut skip others))))) (was_folder_put (cut next inside) now id new (put t))));
   stays = λ t path other. stays t path other ∙ way.stays t path other;
   keeps = λ t path text there. keeps t path text (way.keeps t path text there);
-  ids = λ own all. way.ids (split_ids entries (record { mode = Folder; name = name; id = id } ∷ []) own).0 (subst HaveRowIds (sym group.whole) (join_ids inside others inner_ids all));
+  ids =
+      λ own all. way.ids (split_ids entries (record { mode = Folder; name = name; id = id } ∷ []) own).0 (subst HaveRowIds (sym group.whole) (join_ids inside others inner_ids all));
 }
 
 -- what is answered of one step is answered of another, where they stop alike
-stops_alike : (means later : Result Id Lack × World) (e : TreeFault) (new : World) → ((why : Lack) → means ≡ (Err why, new) → later ≡ (Err why, new)) → HasPut (Err e) means new → HasPut (Err e) later new
+stops_alike : (means later : Result Id Lack × World) (e : TreeFault) (new : World) → ((why : Lack) → means ≡ (Err why, new) → later ≡ (Err why, new))
+    → HasPut (Err e) means new → HasPut (Err e) later new
 stops_alike means later (BadObject id) new alike is = alike _ is
 stops_alike means later (TooLarge count) new alike is = alike _ is
 stops_alike means later Depth new alike is = alike _ is
@@ -377,13 +399,15 @@ stops_alike means later (Blocked path) new alike is = alike _ is
 stops_alike means later Fault new alike is = tt
 stops_alike means later Memory new alike is = tt
 
-all_trees : (w : World) (listing : Listing) → each_put (folder_trees listing ++ tree_entries listing ∷ []) w ≡ go_on (each_put (folder_trees listing) w) (λ put. each_put (tree_entries listing ∷ []))
+all_trees : (w : World) (listing : Listing)
+    → each_put (folder_trees listing ++ tree_entries listing ∷ []) w ≡ go_on (each_put (folder_trees listing) w) (λ put. each_put (tree_entries listing ∷ []))
 all_trees w listing = each_put-append (folder_trees listing) (tree_entries listing ∷ []) w
 
 pub way_stops : (told : Type 0) (skip next : ℕ) (rows left inside others : Entries) (name : List ℕ) (entries : List TreeEntry) (old now : World) (e : TreeFault) (new : World)
     → IsWay told skip rows left entries old now → HasGroup name skip next left inside others → told → HasPut (Err e) (folder_put (cut next inside) now) new → HasPut (Err e) (folder_put (cut skip rows) old) new
 unfolding trees_of folder_put
-way_stops told skip next rows left inside others name entries old now e new way group t put = stops_alike (folder_put (cut next inside) now) (folder_put (cut skip rows) old) e new stops put
+way_stops told skip next rows left inside others name entries old now e new way group t put =
+    stops_alike (folder_put (cut next inside) now) (folder_put (cut skip rows) old) e new stops put
   where
     stops : (why : Lack) → folder_put (cut next inside) now ≡ (Err why, new) → folder_put (cut skip rows) old ≡ (Err why, new)
     stops why is =
@@ -396,7 +420,8 @@ way_stops told skip next rows left inside others name entries old now e new way 
         (all_trees old (listing_of (cut skip rows)) ∙ ap (λ (r : Result (Unit {0}) Lack × World). go_on r (λ all. each_put (tree_entries (listing_of (cut skip rows)) ∷ []))) folders)
 
 -- at the end the folder's own tree comes
-ends_with_tree : (told : Type 0) (skip : ℕ) (rows : Entries) (entries : List TreeEntry) (old now : World) → IsWay told skip rows [] entries old now → told
+ends_with_tree : (told : Type 0) (skip : ℕ) (rows : Entries) (entries : List TreeEntry) (old now : World) → IsWay told skip rows [] entries old now
+    → told
     → folder_put (cut skip rows) old ≡ go_on (go_on (object_put (tree_object (tree_entries (listing_of (cut skip rows)))) now) (λ id. gives unit)) (λ all. gives (root_of (cut skip rows)))
 unfolding trees_of folder_trees listing_of folder_put
 ends_with_tree told skip rows entries old now way t =
@@ -405,27 +430,35 @@ ends_with_tree told skip rows entries old now way t =
     ∙ (ap (λ (r : Result (Unit {0}) Lack × World). go_on r (λ all. each_put (tree_entries (listing_of (cut skip rows)) ∷ []))) (way.trees_are t ∙ each_put-none now)
     ∙ each_put-one (tree_entries (listing_of (cut skip rows))) now))
 
-pub all_entries : (told : Type 0) (skip : ℕ) (rows : Entries) (entries : List TreeEntry) (old now : World) → IsWay told skip rows [] entries old now → tree_entries (listing_of (cut skip rows)) ≡ entries
+pub all_entries : (told : Type 0) (skip : ℕ) (rows : Entries) (entries : List TreeEntry) (old now : World) → IsWay told skip rows [] entries old now
+    → tree_entries (listing_of (cut skip rows)) ≡ entries
 unfolding tree_entries listing_of
 all_entries told skip rows entries old now way = way.entries_are ∙ append-nil entries
 
-pub way_ordered : (told : Type 0) (skip : ℕ) (rows : Entries) (entries : List TreeEntry) (old now : World) → GoesOnBehind skip rows → IsWay told skip rows [] entries old now → IsTreeOrder entries
-way_ordered told skip rows entries old now goes way = subst IsTreeOrder (all_entries told skip rows entries old now way) (map_ordered (cut skip rows) goes.names goes.is_map)
+pub way_ordered : (told : Type 0) (skip : ℕ) (rows : Entries) (entries : List TreeEntry) (old now : World) → GoesOnBehind skip rows
+    → IsWay told skip rows [] entries old now → IsTreeOrder entries
+way_ordered told skip rows entries old now goes way =
+    subst IsTreeOrder (all_entries told skip rows entries old now way) (map_ordered (cut skip rows) goes.names goes.is_map)
 
-root_is : (told : Type 0) (skip : ℕ) (rows : Entries) (entries : List TreeEntry) (old now : World) → IsWay told skip rows [] entries old now → tree_id entries ≡ root_of (cut skip rows)
+root_is : (told : Type 0) (skip : ℕ) (rows : Entries) (entries : List TreeEntry) (old now : World) → IsWay told skip rows [] entries old now
+    → tree_id entries ≡ root_of (cut skip rows)
 unfolding root_of
 root_is told skip rows entries old now way = ap tree_id (sym (all_entries told skip rows entries old now way))
 
-pub way_root : (told : Type 0) (skip : ℕ) (rows : Entries) (entries : List TreeEntry) (old now : World) (r : Result Id TreeFault) → IsWay told skip rows [] entries old now → IfOk r (λ id. id ≡ tree_id entries) → IfOk r (λ id. id ≡ root_of (cut skip rows))
+pub way_root : (told : Type 0) (skip : ℕ) (rows : Entries) (entries : List TreeEntry) (old now : World) (r : Result Id TreeFault)
+    → IsWay told skip rows [] entries old now → IfOk r (λ id. id ≡ tree_id entries) → IfOk r (λ id. id ≡ root_of (cut skip rows))
 way_root told skip rows entries old now (Ok id) way is = is ∙ root_is told skip rows entries old now way
 way_root told skip rows entries old now (Err e) way is = tt
 
 -- what is answered of the last tree is answered of all
-tree_ends : (root : Id) (means : Result Id Lack × World) (r : Result Id TreeFault) (new : World) → IfOk r (λ id. id ≡ root) → HasPut r means new → HasPut r (go_on (go_on means (λ id. gives unit)) (λ all. gives root)) new
+tree_ends : (root : Id) (means : Result Id Lack × World) (r : Result Id TreeFault) (new : World) → IfOk r (λ id. id ≡ root) → HasPut r means new
+    → HasPut r (go_on (go_on means (λ id. gives unit)) (λ all. gives root)) new
 tree_ends root means (Ok id) new root_is put = rw put (ap (λ (i : Id). (Ok i, new)) (sym root_is))
-tree_ends root means (Err e) new root_is put = stops_alike means (go_on (go_on means (λ id. gives unit)) (λ all. gives root)) e new (λ why is. rw is refl) put
+tree_ends root means (Err e) new root_is put =
+    stops_alike means (go_on (go_on means (λ id. gives unit)) (λ all. gives root)) e new (λ why is. rw is refl) put
 
-pub way_ends : (told : Type 0) (skip : ℕ) (rows : Entries) (entries : List TreeEntry) (old now : World) (r : Result Id TreeFault) (new : World) → IsWay told skip rows [] entries old now → told → IfOk r (λ id. id ≡ tree_id entries)
+pub way_ends : (told : Type 0) (skip : ℕ) (rows : Entries) (entries : List TreeEntry) (old now : World) (r : Result Id TreeFault) (new : World)
+    → IsWay told skip rows [] entries old now → told → IfOk r (λ id. id ≡ tree_id entries)
     → HasPut r (object_put (tree_object entries) now) new → HasPut r (folder_put (cut skip rows) old) new
 way_ends told skip rows entries old now r new way t root put =
     let entries_are = all_entries told skip rows entries old now way in
@@ -438,13 +471,15 @@ nothing [] none = refl
 nothing (e ∷ es) none = absurd (omega arith)
 
 -- the measure: a folder's path is longer than its parent's, and no path is longer than 4095 bytes
-pub falls : (bytes : List ℕ) (skip at : ℕ) → IsPath bytes → HasSlash (take (length bytes - skip) (drop skip bytes)) at → 4096 - (skip + at + 1) < 4096 - skip
+pub falls : (bytes : List ℕ) (skip at : ℕ) → IsPath bytes → HasSlash (take (length bytes - skip) (drop skip bytes)) at
+    → 4096 - (skip + at + 1) < 4096 - skip
 falls bytes skip at path slash =
     let size = ap (length {A = ℕ}) (take_rest bytes skip) ∙ length-drop skip bytes in
     let short = path.short in
     let within = slash.within in
     omega (arith, size, short, within)
 
-pub way_ids : (told : Type 0) (skip : ℕ) (rows : Entries) (entries : List TreeEntry) (old now : World) (r : Result Id TreeFault) → IsWay told skip rows [] entries old now → OnOk r (HaveIds entries) → OnOk r (HaveRowIds rows)
+pub way_ids : (told : Type 0) (skip : ℕ) (rows : Entries) (entries : List TreeEntry) (old now : World) (r : Result Id TreeFault)
+    → IsWay told skip rows [] entries old now → OnOk r (HaveIds entries) → OnOk r (HaveRowIds rows)
 way_ids told skip rows entries old now (Ok id) way ids = way.ids ids tt
 way_ids told skip rows entries old now (Err e) way ids = tt

@@ -44,7 +44,8 @@ IsWhole (OneFolder name its others) = (is_name name ≡ true) × IsSome its × I
 
 -- ---- a file is listed first
 
-pub into_folder : (name : List ℕ) (ps : List (List ℕ)) (entry : Entry) (listing : Listing) → 0 < length ps → with_file (name ∷ ps) entry listing ≡ in_folder name (with_file ps entry) listing
+pub into_folder : (name : List ℕ) (ps : List (List ℕ)) (entry : Entry) (listing : Listing) → 0 < length ps
+    → with_file (name ∷ ps) entry listing ≡ in_folder name (with_file ps entry) listing
 unfolding with_file
 into_folder name [] entry listing some = absurd (omega arith)
 into_folder name (next ∷ more) entry listing some = refl
@@ -56,10 +57,12 @@ bytes_same a b is = (bytes_eq-Decides a b).0 is
 abbrev ListsAt : List ℕ → Entry → (Listing → Listing) → Type 0
 ListsAt path entry change = (listing : Listing) → rows_in (change listing) ≡ (path, entry) ∷ rows_in listing
 
-rows_in_folder : (name path : List ℕ) (entry : Entry) (change : Listing → Listing) → ListsAt path entry change → ListsAt (name ++ 47 ∷ path) entry (in_folder name change)
+rows_in_folder : (name path : List ℕ) (entry : Entry) (change : Listing → Listing) → ListsAt path entry change
+    → ListsAt (name ++ 47 ∷ path) entry (in_folder name change)
 unfolding rows_in
 rows_in_folder name path entry change lists NoMore = ap (λ (rows : Entries). map (in_front name) rows ++ []) (lists NoMore)
-rows_in_folder name path entry change lists (OneFile first other others) = ap (λ (rows : Entries). map (in_front name) rows ++ (first, other) ∷ rows_in others) (lists NoMore)
+rows_in_folder name path entry change lists (OneFile first other others) =
+    ap (λ (rows : Entries). map (in_front name) rows ++ (first, other) ∷ rows_in others) (lists NoMore)
 rows_in_folder name path entry change lists (OneFolder first its others) = at (bytes_eq first name) refl
   where
     at : (same : Bool) → bytes_eq first name ≡ same
@@ -72,7 +75,8 @@ rows_in_folder name path entry change lists (OneFolder first its others) = at (b
 rows_with : (name : List ℕ) (more : List (List ℕ)) (entry : Entry) → ListsAt (join_with_byte 47 (name ∷ more)) entry (with_file (name ∷ more) entry)
 unfolding with_file rows_in
 rows_with name [] entry listing = refl
-rows_with name (next ∷ more) entry listing = rows_in_folder name (join_with_byte 47 (next ∷ more)) entry (with_file (next ∷ more) entry) (rows_with next more entry) listing
+rows_with name (next ∷ more) entry listing =
+    rows_in_folder name (join_with_byte 47 (next ∷ more)) entry (with_file (next ∷ more) entry) (rows_with next more entry) listing
 
 abbrev KeepsWhole : (Listing → Listing) → Type 0
 KeepsWhole change = (listing : Listing) → IsWhole listing → IsSome (change listing) × IsWhole (change listing)
@@ -84,10 +88,12 @@ whole_in_folder name change good keeps (OneFolder first its others) whole = at (
   where
     at : (same : Bool) → bytes_eq first name ≡ same
         → IsSome (cond same (OneFolder name (change its) others) (OneFolder name (change NoMore) (OneFolder first its others))) × IsWhole (cond same (OneFolder name (change its) others) (OneFolder name (change NoMore) (OneFolder first its others)))
-    at true is = let one = keeps its whole.2 in (tt, (good, one.0, one.1, subst (λ (n : List ℕ). IsOther n others) (bytes_same first name is) whole.3, whole.4))
+    at true is =
+        let one = keeps its whole.2 in (tt, (good, one.0, one.1, subst (λ (n : List ℕ). IsOther n others) (bytes_same first name is) whole.3, whole.4))
     at false is = let one = keeps NoMore tt in (tt, (good, one.0, one.1, is, whole))
 
-whole_with : (name : List ℕ) (more : List (List ℕ)) (entry : Entry) → list_all is_name (name ∷ more) ≡ true → is_folder entry.mode ≡ false → KeepsWhole (with_file (name ∷ more) entry)
+whole_with : (name : List ℕ) (more : List (List ℕ)) (entry : Entry) → list_all is_name (name ∷ more) ≡ true → is_folder entry.mode ≡ false
+    → KeepsWhole (with_file (name ∷ more) entry)
 unfolding with_file
 whole_with name [] entry good file listing whole = (tt, ((and_parts (is_name name) true good).0, file, whole))
 whole_with name (next ∷ more) entry good file listing whole =
@@ -142,17 +148,22 @@ pub parts_in_front : (name path : List ℕ) → has_no_slash name ≡ true → p
 parts_in_front name path none =
     slice_split_at (λ b. b == 47) name 47 path (All-weaker (λ b. not (b == 47) ≡ true) (λ b. (b == 47) ≡ false) (λ b is. not-true (b == 47) is) name (AllPass-from_list_all (λ b. not (b == 47)) name none)) refl
 
-pub file_listed : (path : List ℕ) (entry : Entry) (rows : Entries) → parts path ≡ path ∷ [] → listing_of ((path, entry) ∷ rows) ≡ OneFile path entry (listing_of rows)
+pub file_listed : (path : List ℕ) (entry : Entry) (rows : Entries) → parts path ≡ path ∷ []
+    → listing_of ((path, entry) ∷ rows) ≡ OneFile path entry (listing_of rows)
 unfolding listing_of with_file
 file_listed path entry rows one = ap (λ (ps : List (List ℕ)). with_file ps entry (listing_of rows)) one
 
-new_folder : (name : List ℕ) (change : Listing → Listing) (listing : Listing) → IsOther name listing → in_folder name change listing ≡ OneFolder name (change NoMore) listing
+new_folder : (name : List ℕ) (change : Listing → Listing) (listing : Listing) → IsOther name listing
+    → in_folder name change listing ≡ OneFolder name (change NoMore) listing
 new_folder name change NoMore other = refl
 new_folder name change (OneFile first entry others) other = refl
-new_folder name change (OneFolder first its others) other = ap (λ (same : Bool). cond same (OneFolder name (change its) others) (OneFolder name (change NoMore) (OneFolder first its others))) other
+new_folder name change (OneFolder first its others) other =
+    ap (λ (same : Bool). cond same (OneFolder name (change its) others) (OneFolder name (change NoMore) (OneFolder first its others))) other
 
-old_folder : (name : List ℕ) (change : Listing → Listing) (its others : Listing) → in_folder name change (OneFolder name its others) ≡ OneFolder name (change its) others
-old_folder name change its others = ap (λ (same : Bool). cond same (OneFolder name (change its) others) (OneFolder name (change NoMore) (OneFolder name its others))) ((bytes_eq-Decides name name).1 refl)
+old_folder : (name : List ℕ) (change : Listing → Listing) (its others : Listing)
+    → in_folder name change (OneFolder name its others) ≡ OneFolder name (change its) others
+old_folder name change its others =
+    ap (λ (same : Bool). cond same (OneFolder name (change its) others) (OneFolder name (change NoMore) (OneFolder name its others))) ((bytes_eq-Decides name name).1 refl)
 
 pub folder_listed : (name : List ℕ) (e : List ℕ × Entry) (es others : Entries) → has_no_slash name ≡ true → IsOther name (listing_of others)
     → listing_of (map (in_front name) (e ∷ es) ++ others) ≡ OneFolder name (listing_of (e ∷ es)) (listing_of others)
@@ -167,25 +178,29 @@ folder_listed name e (d ∷ es) others none other =
     ∙ old_folder name (with_file (parts e.0) e.1) (listing_of (d ∷ es)) (listing_of others)))
 
 -- a map that does not begin below a folder does not list it first
-pub other_listed : (name : List ℕ) (rows : Entries) → ((e : List ℕ × Entry) (es : Entries) → rows ≡ e ∷ es → (path : List ℕ) → e.0 ≡ name ++ 47 ∷ path → ⊥) → IsOther name (listing_of rows)
+pub other_listed : (name : List ℕ) (rows : Entries)
+    → ((e : List ℕ × Entry) (es : Entries) → rows ≡ e ∷ es → (path : List ℕ) → e.0 ≡ name ++ 47 ∷ path → ⊥) → IsOther name (listing_of rows)
 unfolding listing_of with_file
 other_listed name [] outside = tt
 other_listed name (e ∷ es) outside =
     let has = path_parts e.0 in
     subst (λ (ps : List (List ℕ)). IsOther name (with_file ps e.1 (listing_of es))) (sym has.parts_are) (by has.first has.more (joined e.0 has))
   where
-    by : (first : List ℕ) (more : List (List ℕ)) → join_with_byte 47 (first ∷ more) ≡ e.0 → IsOther name (with_file (first ∷ more) e.1 (listing_of es))
+    by : (first : List ℕ) (more : List (List ℕ)) → join_with_byte 47 (first ∷ more) ≡ e.0
+        → IsOther name (with_file (first ∷ more) e.1 (listing_of es))
     by first [] joined = tt
     by first (next ∷ more) joined = at (listing_of es)
       where
         apart : bytes_eq first name ≡ false
-        apart = false_from_ne_true (bytes_eq first name) (λ same. outside e es refl (join_with_byte 47 (next ∷ more)) (sym joined ∙ ap (λ (n : List ℕ). n ++ 47 ∷ join_with_byte 47 (next ∷ more)) (bytes_same first name same)))
+        apart =
+            false_from_ne_true (bytes_eq first name) (λ same. outside e es refl (join_with_byte 47 (next ∷ more)) (sym joined ∙ ap (λ (n : List ℕ). n ++ 47 ∷ join_with_byte 47 (next ∷ more)) (bytes_same first name same)))
 
         at : (listing : Listing) → IsOther name (in_folder first (with_file (next ∷ more) e.1) listing)
         at NoMore = apart
         at (OneFile f entry others) = apart
         at (OneFolder f its others) = each (bytes_eq f first)
           where
-            each : (same : Bool) → IsOther name (cond same (OneFolder first (with_file (next ∷ more) e.1 its) others) (OneFolder first (with_file (next ∷ more) e.1 NoMore) (OneFolder f its others)))
+            each : (same : Bool)
+                → IsOther name (cond same (OneFolder first (with_file (next ∷ more) e.1 its) others) (OneFolder first (with_file (next ∷ more) e.1 NoMore) (OneFolder f its others)))
             each true = apart
             each false = apart

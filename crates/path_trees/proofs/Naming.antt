@@ -34,15 +34,19 @@ bad_only : (w : World) (id : Id) → IsBadOnly w id → oversize_at w id ≡ Non
 unfolding oversize_at object_of
 bad_only w id bad = file (held.get w (object_path id)) refl
   where
-    sized : (text : Text) (o : Object) → held.get w (object_path id) ≡ Some text → IsObject o text → (t : Bool) → nat_le (length o.bytes) content_limit ≡ t → oversize (length o.bytes) ≡ None
+    sized : (text : Text) (o : Object) → held.get w (object_path id) ≡ Some text → IsObject o text → (t : Bool)
+        → nat_le (length o.bytes) content_limit ≡ t → oversize (length o.bytes) ≡ None
     sized text o held is true fits = rw fits refl
-    sized text o held is false over = absurd (bad.small (length o.bytes) (text, held, record { object = o; spelled = is; count_is = refl; above = grind (arith, nat_tests) }))
+    sized text o held is false over =
+        absurd (bad.small (length o.bytes) (text, held, record { object = o; spelled = is; count_is = refl; above = grind (arith, nat_tests) }))
 
-    object : (text : Text) → held.get w (object_path id) ≡ Some text → (read : Result Object ℕ) → object_from text ≡ read → option_and_then (λ o. oversize (length o.bytes)) (value_read read) ≡ None
+    object : (text : Text) → held.get w (object_path id) ≡ Some text → (read : Result Object ℕ) → object_from text ≡ read
+        → option_and_then (λ o. oversize (length o.bytes)) (value_read read) ≡ None
     object text held (Ok o) is = sized text o held (object_reads.takes text o is) (nat_le (length o.bytes) content_limit) refl
     object text held (Err left) is = refl
 
-    file : (found : Option Text) → held.get w (object_path id) ≡ found → option_and_then (λ text. option_and_then (λ o. oversize (length o.bytes)) (value_read (object_from text))) found ≡ None
+    file : (found : Option Text) → held.get w (object_path id) ≡ found
+        → option_and_then (λ text. option_and_then (λ o. oversize (length o.bytes)) (value_read (object_from text))) found ≡ None
     file None is = refl
     file (Some text) is = object text is (object_from text) refl
 
@@ -51,7 +55,8 @@ unfolding map_named
 map_ok w id m is = rw is refl
 
 -- what is told of a tree that has no map
-pub map_err : (w : World) (id : Id) (fault : TreeFault) → Blames w fault (map_at w id) → Denies {Y = List (List ℕ × Entry)} (halt_of_read fault) (map_named w id)
+pub map_err : (w : World) (id : Id) (fault : TreeFault) → Blames w fault (map_at w id)
+    → Denies {Y = List (List ℕ × Entry)} (halt_of_read fault) (map_named w id)
 unfolding map_named
 map_err w id (BadObject bad) (is, only) = rw (is, bad_only w bad only) refl
 map_err w id (TooLarge count) (bad, is, large) = rw (is, size_told w bad count large) refl
@@ -61,7 +66,8 @@ map_err w id Fault is = tt
 map_err w id Memory is = tt
 
 -- what is told of trees that were not put
-pub not_put : (fault : TreeFault) (means : Result Id Lack × World) (now : World) → HasPut (Err fault) means now → Turns {X = Id} {Y = Id} (λ id. id) (Err (halt_of_put fault)) means now
+pub not_put : (fault : TreeFault) (means : Result Id Lack × World) (now : World) → HasPut (Err fault) means now
+    → Turns {X = Id} {Y = Id} (λ id. id) (Err (halt_of_put fault)) means now
 not_put (BadObject id) means now is = is
 not_put (TooLarge count) means now is = is
 not_put Depth means now is = is
@@ -70,7 +76,8 @@ not_put Fault means now is = tt
 not_put Memory means now is = tt
 
 -- what the answer says of the counts of the store
-pub put_halts : (told : Type 0) (old new : Seen) (fault : TreeFault) → HasCause told (tree_cause fault) old new → HasCause told (halt_cause (halt_of_put fault)) old new
+pub put_halts : (told : Type 0) (old new : Seen) (fault : TreeFault) → HasCause told (tree_cause fault) old new
+    → HasCause told (halt_cause (halt_of_put fault)) old new
 put_halts told old new (BadObject id) cause = cause
 put_halts told old new (TooLarge count) cause = cause
 put_halts told old new Depth cause = cause
@@ -91,8 +98,10 @@ none_blocked : (old now new : Seen) → NoneBlocked old now → NoneBlocked now 
 none_blocked old now new first then = (then.0 ∙ first.0, then.1 ∙ first.1)
 
 -- a call that reads, after another that did
-pub read_after : (told : Type 0) (old now new : Seen) (cause : Cause) → HasReadCause told ByNone old now → HasReadCause told cause now new → HasReadCause told cause old new
-read_after told old now new ByNone first then = (then.0 ∙ first.0, none_blocked old now new first.1 then.1, stays_after told old now new first.2 then.2)
+pub read_after : (told : Type 0) (old now new : Seen) (cause : Cause) → HasReadCause told ByNone old now → HasReadCause told cause now new
+    → HasReadCause told cause old new
+read_after told old now new ByNone first then =
+    (then.0 ∙ first.0, none_blocked old now new first.1 then.1, stays_after told old now new first.2 then.2)
 read_after told old now new ByFault first then =
     let least = then.0 in
     let same = first.0 in

@@ -54,10 +54,12 @@ one_tree s t gs gt same =
     cc
 
 -- trees with one id are one, or have different texts
-told_apart : (s t : List TreeEntry) → IsGood s → IsGood t → tree_id s ≡ tree_id t → (s ≡ t) ⊎ (object_text (tree_object s) ≡ object_text (tree_object t) → ⊥)
+told_apart : (s t : List TreeEntry) → IsGood s → IsGood t → tree_id s ≡ tree_id t
+    → (s ≡ t) ⊎ (object_text (tree_object s) ≡ object_text (tree_object t) → ⊥)
 told_apart s t gs gt same = by (bytes_eq (object_text (tree_object s)) (object_text (tree_object t))) refl
   where
-    by : (equal : Bool) → bytes_eq (object_text (tree_object s)) (object_text (tree_object t)) ≡ equal → (s ≡ t) ⊎ (object_text (tree_object s) ≡ object_text (tree_object t) → ⊥)
+    by : (equal : Bool) → bytes_eq (object_text (tree_object s)) (object_text (tree_object t)) ≡ equal
+        → (s ≡ t) ⊎ (object_text (tree_object s) ≡ object_text (tree_object t) → ⊥)
     by true is = inl (one_tree s t gs gt ((bytes_eq-Decides (object_text (tree_object s)) (object_text (tree_object t))).0 is))
     by false is = inr (λ e. let on = (bytes_eq-Decides (object_text (tree_object s)) (object_text (tree_object t))).1 e in absurd cc)
 
@@ -100,25 +102,32 @@ module _ (name : List ℕ) (its others : Listing) (sound : IsSound (OneFolder na
   folder_tree = record { order = tree_ordered its folder_its.whole folder_its.apart; ids = have_ids its folder_its.ids; small = small_trees.1.0 }
 
 -- collisions among fewer trees are collisions among more
-wider : (ss ts us vs : List (List TreeEntry)) → ((t : List TreeEntry) → Contains ss t → Contains us t) → ((t : List TreeEntry) → Contains ts t → Contains vs t) → HaveOneId ss ts → HaveOneId us vs
-wider ss ts us vs left right at = record { one = at.one; other = at.other; among = left at.one at.among; among_others = right at.other at.among_others; differ = at.differ; same = at.same }
+wider : (ss ts us vs : List (List TreeEntry)) → ((t : List TreeEntry) → Contains ss t → Contains us t)
+    → ((t : List TreeEntry) → Contains ts t → Contains vs t) → HaveOneId ss ts → HaveOneId us vs
+wider ss ts us vs left right at =
+    record { one = at.one; other = at.other; among = left at.one at.among; among_others = right at.other at.among_others; differ = at.differ; same = at.same }
 
 head_of : (t : List TreeEntry) (ts : List (List TreeEntry)) → Contains (t ∷ ts) t
 head_of t ts = (0, omega arith, refl)
 
-in_its : (name : List ℕ) (its others : Listing) (t : List TreeEntry) → Contains (folder_trees its) t → Contains (folder_trees (OneFolder name its others)) t
+in_its : (name : List ℕ) (its others : Listing) (t : List TreeEntry) → Contains (folder_trees its) t
+    → Contains (folder_trees (OneFolder name its others)) t
 unfolding folder_trees
 in_its name its others t at = Contains-append_left (folder_trees its) (tree_entries its ∷ folder_trees others) t at
 
 in_own : (name : List ℕ) (its others : Listing) → Contains (folder_trees (OneFolder name its others)) (tree_entries its)
 unfolding folder_trees
-in_own name its others = Contains-append_right (folder_trees its) (tree_entries its ∷ folder_trees others) (tree_entries its) (head_of (tree_entries its) (folder_trees others))
+in_own name its others =
+    Contains-append_right (folder_trees its) (tree_entries its ∷ folder_trees others) (tree_entries its) (head_of (tree_entries its) (folder_trees others))
 
-in_others : (name : List ℕ) (its others : Listing) (t : List TreeEntry) → Contains (folder_trees others) t → Contains (folder_trees (OneFolder name its others)) t
+in_others : (name : List ℕ) (its others : Listing) (t : List TreeEntry) → Contains (folder_trees others) t
+    → Contains (folder_trees (OneFolder name its others)) t
 unfolding folder_trees
-in_others name its others t at = Contains-append_right (folder_trees its) (tree_entries its ∷ folder_trees others) t (Contains-append_right (tree_entries its ∷ []) (folder_trees others) t at)
+in_others name its others t at =
+    Contains-append_right (folder_trees its) (tree_entries its ∷ folder_trees others) t (Contains-append_right (tree_entries its ∷ []) (folder_trees others) t at)
 
-in_file_others : (name : List ℕ) (entry : Entry) (others : Listing) (t : List TreeEntry) → Contains (folder_trees others) t → Contains (folder_trees (OneFile name entry others)) t
+in_file_others : (name : List ℕ) (entry : Entry) (others : Listing) (t : List TreeEntry) → Contains (folder_trees others) t
+    → Contains (folder_trees (OneFile name entry others)) t
 unfolding folder_trees
 in_file_others name entry others t at = at
 
@@ -132,7 +141,8 @@ first_of other (t ∷ ts) = t
 abbrev entry_at : List ℕ → Entry → TreeEntry
 entry_at name entry = record { mode = entry.mode; name = name; id = entry.id }
 
-same_file : (n n' : List ℕ) (e e' : Entry) (o o' : Listing) (es es' : List TreeEntry) → entry_at n e ∷ es ≡ entry_at n' e' ∷ es' → (es ≡ es' → Same o o') → Same (OneFile n e o) (OneFile n' e' o')
+same_file : (n n' : List ℕ) (e e' : Entry) (o o' : Listing) (es es' : List TreeEntry) → entry_at n e ∷ es ≡ entry_at n' e' ∷ es'
+    → (es ≡ es' → Same o o') → Same (OneFile n e o) (OneFile n' e' o')
 unfolding rows_in
 same_file n n' e e' o o' es es' same others = elim (others cc) [
   | inl rows ↦
@@ -146,7 +156,8 @@ same_file n n' e e' o o' es es' same others = elim (others cc) [
 abbrev folder_at : List ℕ → Listing → TreeEntry
 folder_at name its = record { mode = Folder; name = name; id = tree_id (tree_entries its) }
 
-same_folder : (n n' : List ℕ) (its its' o o' : Listing) (es es' : List TreeEntry) → IsGood (tree_entries its) → IsGood (tree_entries its') → folder_at n its ∷ es ≡ folder_at n' its' ∷ es' → (tree_entries its ≡ tree_entries its' → Same its its') → (es ≡ es' → Same o o')
+same_folder : (n n' : List ℕ) (its its' o o' : Listing) (es es' : List TreeEntry) → IsGood (tree_entries its) → IsGood (tree_entries its')
+    → folder_at n its ∷ es ≡ folder_at n' its' ∷ es' → (tree_entries its ≡ tree_entries its' → Same its its') → (es ≡ es' → Same o o')
     → Same (OneFolder n its o) (OneFolder n' its' o')
 unfolding rows_in
 same_folder n n' its its' o o' es es' good good' same inner others =
@@ -160,11 +171,15 @@ same_folder n n' its its' o o' es es' good good' same inner others =
     ]
   where
     both : n ≡ n' → Same its its' → Same o o' → Same (OneFolder n its o) (OneFolder n' its' o')
-    both name (inl rows) (inl later) = inl (ap (λ (k : List ℕ). map (in_front k) (rows_in its) ++ rows_in o) name ∙ (ap (λ (rs : Entries). map (in_front n') rs ++ rows_in o) rows ∙ ap (λ (rs : Entries). map (in_front n') (rows_in its') ++ rs) later))
-    both name (inl rows) (inr at) = inr (wider (folder_trees o) (folder_trees o') (folder_trees (OneFolder n its o)) (folder_trees (OneFolder n' its' o')) (in_others n its o) (in_others n' its' o') at)
-    both name (inr at) later = inr (wider (folder_trees its) (folder_trees its') (folder_trees (OneFolder n its o)) (folder_trees (OneFolder n' its' o')) (in_its n its o) (in_its n' its' o') at)
+    both name (inl rows) (inl later) =
+        inl (ap (λ (k : List ℕ). map (in_front k) (rows_in its) ++ rows_in o) name ∙ (ap (λ (rs : Entries). map (in_front n') rs ++ rows_in o) rows ∙ ap (λ (rs : Entries). map (in_front n') (rows_in its') ++ rs) later))
+    both name (inl rows) (inr at) =
+        inr (wider (folder_trees o) (folder_trees o') (folder_trees (OneFolder n its o)) (folder_trees (OneFolder n' its' o')) (in_others n its o) (in_others n' its' o') at)
+    both name (inr at) later =
+        inr (wider (folder_trees its) (folder_trees its') (folder_trees (OneFolder n its o)) (folder_trees (OneFolder n' its' o')) (in_its n its o) (in_its n' its' o') at)
 
-no_folder : (name id : List ℕ) (entry : Entry) (t : TreeEntry) (es es' : List TreeEntry) → is_folder entry.mode ≡ false → is_folder t.mode ≡ true → entry_at name entry ∷ es ≡ t ∷ es' → ⊥
+no_folder : (name id : List ℕ) (entry : Entry) (t : TreeEntry) (es es' : List TreeEntry) → is_folder entry.mode ≡ false → is_folder t.mode ≡ true
+    → entry_at name entry ∷ es ≡ t ∷ es' → ⊥
 no_folder name id entry t es es' file folder same =
     let mode = ap (λ (x : TreeEntry). is_folder x.mode) (ap (first_of t) same) in
     absurd cc
@@ -176,16 +191,20 @@ same_listing NoMore (OneFile name entry others) sl sm same = absurd cc
 same_listing NoMore (OneFolder name its others) sl sm same = absurd cc
 same_listing (OneFile name entry others) NoMore sl sm same = absurd cc
 same_listing (OneFolder name its others) NoMore sl sm same = absurd cc
-same_listing (OneFile n e o) (OneFile n' e' o') sl sm same = same_file n n' e e' o o' (tree_entries o) (tree_entries o') same (λ more. same_listing o o' (file_others n e o sl) (file_others n' e' o' sm) more)
-same_listing (OneFile n e o) (OneFolder n' its' o') sl sm same = absurd (no_folder n n' e (folder_at n' its') (tree_entries o) (tree_entries o') sl.whole.1 refl same)
-same_listing (OneFolder n its o) (OneFile n' e' o') sl sm same = absurd (no_folder n' n e' (folder_at n its) (tree_entries o') (tree_entries o) sm.whole.1 refl (sym same))
+same_listing (OneFile n e o) (OneFile n' e' o') sl sm same =
+    same_file n n' e e' o o' (tree_entries o) (tree_entries o') same (λ more. same_listing o o' (file_others n e o sl) (file_others n' e' o' sm) more)
+same_listing (OneFile n e o) (OneFolder n' its' o') sl sm same =
+    absurd (no_folder n n' e (folder_at n' its') (tree_entries o) (tree_entries o') sl.whole.1 refl same)
+same_listing (OneFolder n its o) (OneFile n' e' o') sl sm same =
+    absurd (no_folder n' n e' (folder_at n its) (tree_entries o') (tree_entries o) sm.whole.1 refl (sym same))
 same_listing (OneFolder n its o) (OneFolder n' its' o') sl sm same =
     same_folder n n' its its' o o' (tree_entries o) (tree_entries o') (folder_tree n its o sl) (folder_tree n' its' o' sm) same
     (λ more. same_listing its its' (folder_its n its o sl) (folder_its n' its' o' sm) more) (λ more. same_listing o o' (folder_others n its o sl) (folder_others n' its' o' sm) more)
 
 -- ---- maps
 
-pub one_root : (rows others : Entries) → IsPathMap rows → IsPathMap others → AllByRecursion (λ e. IsPath e.0) rows → AllByRecursion (λ e. IsPath e.0) others → HaveRowIds rows → HaveRowIds others
+pub one_root : (rows others : Entries) → IsPathMap rows → IsPathMap others → AllByRecursion (λ e. IsPath e.0) rows
+    → AllByRecursion (λ e. IsPath e.0) others → HaveRowIds rows → HaveRowIds others
     → AllByRecursion IsSmall (trees_of rows) → AllByRecursion IsSmall (trees_of others) → root_of rows ≡ root_of others → (rows ≡ others) ⊎ HaveOneId (trees_of rows) (trees_of others)
 unfolding root_of trees_of
 one_root rows others map_is others_map paths others_paths ids others_ids small others_small same =
@@ -211,7 +230,8 @@ one_root rows others map_is others_map paths others_paths ids others_ids small o
       })
     ]
   where
-    sound : (rows : Entries) → IsPathMap rows → AllByRecursion (λ e. IsPath e.0) rows → HaveRowIds rows → AllByRecursion IsSmall (folder_trees (listing_of rows)) → IsSound (listing_of rows)
+    sound : (rows : Entries) → IsPathMap rows → AllByRecursion (λ e. IsPath e.0) rows → HaveRowIds rows
+        → AllByRecursion IsSmall (folder_trees (listing_of rows)) → IsSound (listing_of rows)
     sound rows is paths ids small =
         let listed = sym (rows_listed rows) in
         record { whole = listing_whole rows (all_names rows paths) (are_files rows is.files); apart = subst AllApart listed (map_apart rows is); ids = subst HaveRowIds listed ids; small = small }

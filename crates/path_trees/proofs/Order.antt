@@ -36,7 +36,8 @@ swapped x y other = false_from_ne_true (y == x) (λ is. both_ways (x == y) other
 heads_apart : (x y : ℕ) (p q : List ℕ) → (x == y) ≡ false → clashes (x ∷ p) (y ∷ q) ≡ false
 heads_apart x y p q other = let back = swapped x y other in rw (other, back) refl
 
-pub head_less : (x y : ℕ) (u v : Ordering) → (x == y) ≡ false → is_lt (ordering_then (nat_cmp x y) u) ≡ true → is_lt (ordering_then (nat_cmp x y) v) ≡ true
+pub head_less : (x y : ℕ) (u v : Ordering) → (x == y) ≡ false → is_lt (ordering_then (nat_cmp x y) u) ≡ true
+    → is_lt (ordering_then (nat_cmp x y) v) ≡ true
 head_less x y u v other = at (nat_cmp x y) refl
   where
     at : (o : Ordering) → nat_cmp x y ≡ o → is_lt (ordering_then o u) ≡ true → is_lt (ordering_then o v) ≡ true
@@ -45,7 +46,8 @@ head_less x y u v other = at (nat_cmp x y) refl
     at Greater is less = absurd cc
 
 heads : (x y : ℕ) (p q r s : List ℕ) → (x == y) ≡ false → is_less (x ∷ p) (y ∷ q) ≡ true → IsApart (x ∷ r) (y ∷ s)
-heads x y p q r s other less = record { less = head_less x y (slice_cmp nat_cmp p q) (slice_cmp nat_cmp r s) other less; free = heads_apart x y r s other }
+heads x y p q r s other less =
+    record { less = head_less x y (slice_cmp nat_cmp p q) (slice_cmp nat_cmp r s) other less; free = heads_apart x y r s other }
 
 itself : (x : ℕ) → nat_cmp x x ≡ Equal
 itself x =
@@ -91,7 +93,8 @@ names s t ra rb (x ∷ a) (y ∷ b) ha hb other less = at (λ rest lower. names 
     hb' : has_no_slash b ≡ true
     hb' = (and_parts (not (y == 47)) (has_no_slash b) hb).1
 
-    at : (bytes_eq a b ≡ false → is_less (a ++ tail s []) (b ++ tail t []) ≡ true → IsApart (a ++ tail s ra) (b ++ tail t rb)) → (same : Bool) → (x == y) ≡ same → IsApart (x ∷ (a ++ tail s ra)) (y ∷ (b ++ tail t rb))
+    at : (bytes_eq a b ≡ false → is_less (a ++ tail s []) (b ++ tail t []) ≡ true → IsApart (a ++ tail s ra) (b ++ tail t rb)) → (same : Bool)
+        → (x == y) ≡ same → IsApart (x ∷ (a ++ tail s ra)) (y ∷ (b ++ tail t rb))
     at later true is =
         let one : x ≡ y = eqb-true x y is in
         let rest : bytes_eq a b ≡ false = rw is at other in
@@ -130,7 +133,8 @@ bytes_no_slash (b ∷ name) h =
     rw first (bytes_no_slash name both.1)
 
 pub name_no_slash : (name : List ℕ) → is_name name ≡ true → has_no_slash name ≡ true
-name_no_slash name h = bytes_no_slash name (and_parts (not (length name == 0)) (list_all is_name_byte name) (and_parts (not (length name == 0) && list_all is_name_byte name) _ h).0).1
+name_no_slash name h =
+    bytes_no_slash name (and_parts (not (length name == 0)) (list_all is_name_byte name) (and_parts (not (length name == 0) && list_all is_name_byte name) _ h).0).1
 
 below_apart : (folder a b s t : List ℕ) → IsApart (a ++ s) (b ++ t) → IsApart (below folder a ++ s) (below folder b ++ t)
 below_apart [] a b s t h = h
@@ -138,7 +142,8 @@ below_apart (c ∷ folder) a b s t h =
     let front : List ℕ = (c ∷ folder) ++ 47 ∷ [] in
     rw (append_assoc front a s, append_assoc front b t) (front_apart front (a ++ s) (b ++ t) h)
 
-precedes : (folder : List ℕ) (d e : TreeEntry) → is_name d.name ≡ true → is_name e.name ≡ true → IsBefore d e → Precedes (row_at folder d) (row_at folder e)
+precedes : (folder : List ℕ) (d e : TreeEntry) → is_name d.name ≡ true → is_name e.name ≡ true → IsBefore d e
+    → Precedes (row_at folder d) (row_at folder e)
 precedes folder d e hd he before = record {
   apart = λ p q up uq.
       let less : is_less (d.name ++ tail (is_folder d.mode) []) (e.name ++ tail (is_folder e.mode) []) ≡ true = rw (key_is d.mode d.name, key_is e.mode e.name) at before.less in
@@ -147,7 +152,8 @@ precedes folder d e hd he before = record {
       rw (up.path_is, uq.path_is) both;
 }
 
-precedes_all : (folder : List ℕ) (e : TreeEntry) (es : List TreeEntry) → is_name e.name ≡ true → AllByRecursion (IsBefore e) es → IsTreeOrder es → AllByRecursion (Precedes (row_at folder e)) (map (row_at folder) es)
+precedes_all : (folder : List ℕ) (e : TreeEntry) (es : List TreeEntry) → is_name e.name ≡ true → AllByRecursion (IsBefore e) es → IsTreeOrder es
+    → AllByRecursion (Precedes (row_at folder e)) (map (row_at folder) es)
 precedes_all folder e [] he before order = tt
 precedes_all folder e (d ∷ es) he before order = (precedes folder e d he order.0 before.0, precedes_all folder e es he before.1 order.2)
 

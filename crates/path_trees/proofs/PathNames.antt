@@ -13,7 +13,8 @@ all_parts : (at : ℕ) (ps : List (List ℕ)) → first_bad at ps ≡ None → l
 all_parts at [] good = refl
 all_parts at (p ∷ ps) good = by (is_part p) refl (all_parts (at + length p + 1) ps) good
   where
-    by : (t : Bool) → is_part p ≡ t → (first_bad (at + length p + 1) ps ≡ None → list_all is_part ps ≡ true) → cond t (first_bad (at + length p + 1) ps) (Some at) ≡ None → list_all is_part (p ∷ ps) ≡ true
+    by : (t : Bool) → is_part p ≡ t → (first_bad (at + length p + 1) ps ≡ None → list_all is_part ps ≡ true)
+        → cond t (first_bad (at + length p + 1) ps) (Some at) ≡ None → list_all is_part (p ∷ ps) ≡ true
     by true is later good = and_from (is_part p) (list_all is_part ps) is (later good)
     by false is later good = absurd cc
 
@@ -34,7 +35,8 @@ parts_pass test (b ∷ bytes) all =
         let both = and_parts (list_all test p) (list_all (list_all test) ps) later in
         and_from (list_all test (b ∷ p)) (list_all (list_all test) ps) (and_from (test b) (list_all test p) here both.0) both.1
 
-    at : list_all (list_all test) (parts bytes) ≡ true → (slash : Bool) → (b == 47) ≡ slash → (test b || b == 47) ≡ true → list_all (list_all test) (cond slash ([] ∷ parts bytes) (onto_first b (parts bytes))) ≡ true
+    at : list_all (list_all test) (parts bytes) ≡ true → (slash : Bool) → (b == 47) ≡ slash → (test b || b == 47) ≡ true
+        → list_all (list_all test) (cond slash ([] ∷ parts bytes) (onto_first b (parts bytes))) ≡ true
     at later true is one = later
     at later false is one = onto (parts bytes) (passes (test b) (b == 47) is one) later
 
@@ -75,7 +77,8 @@ parts_named (p ∷ ps) good plain =
     and_from (is_name p) (list_all is_name ps) (part_named p one.0 two.0) (parts_named ps one.1 two.1)
 
 pub path_names : (path : List ℕ) → IsPath path → list_all is_name (parts path) ≡ true
-path_names path is = parts_named (parts path) (all_parts 0 (parts path) is.parts_are) (parts_pass is_plain path (plain_or_slash path (text_fits path is.text)))
+path_names path is =
+    parts_named (parts path) (all_parts 0 (parts path) is.parts_are) (parts_pass is_plain path (plain_or_slash path (text_fits path is.text)))
 
 pub all_names : (rows : Entries) → AllByRecursion (λ e. IsPath e.0) rows → HaveNames rows
 all_names [] paths = tt

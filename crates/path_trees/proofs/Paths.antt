@@ -47,7 +47,8 @@ name_is_some [] h = absurd cc
 name_is_some (b ∷ name) h = omega arith
 
 one_part : (name : List ℕ) → is_name name ≡ true → parts name ≡ name ∷ []
-one_part name h = slice_split_none (λ b. b == 47) name (All-weaker (λ b. not (b == 47) ≡ true) (λ b. (b == 47) ≡ false) (λ b is. not-true (b == 47) is) name (AllPass-from_list_all (λ b. not (b == 47)) name (name_no_slash name h)))
+one_part name h =
+    slice_split_none (λ b. b == 47) name (All-weaker (λ b. not (b == 47) ≡ true) (λ b. (b == 47) ≡ false) (λ b is. not-true (b == 47) is) name (AllPass-from_list_all (λ b. not (b == 47)) name (name_no_slash name h)))
 
 good_name : (at : ℕ) (name : List ℕ) → is_name name ≡ true → first_bad at (name ∷ []) ≡ None
 good_name at name h = let good = part_of_name name h in rw good refl
@@ -56,7 +57,8 @@ good_more : (at : ℕ) (ps : List (List ℕ)) (name : List ℕ) → is_name name
 good_more at [] name h good = good_name at name h
 good_more at (p ∷ ps) name h good = by (is_part p) (good_more (at + length p + 1) ps name h) good
   where
-    by : (t : Bool) → (first_bad (at + length p + 1) ps ≡ None → first_bad (at + length p + 1) (ps ++ name ∷ []) ≡ None) → cond t (first_bad (at + length p + 1) ps) (Some at) ≡ None → cond t (first_bad (at + length p + 1) (ps ++ name ∷ [])) (Some at) ≡ None
+    by : (t : Bool) → (first_bad (at + length p + 1) ps ≡ None → first_bad (at + length p + 1) (ps ++ name ∷ []) ≡ None)
+        → cond t (first_bad (at + length p + 1) ps) (Some at) ≡ None → cond t (first_bad (at + length p + 1) (ps ++ name ∷ [])) (Some at) ≡ None
     by true later h = later h
     by false later h = absurd cc
 
@@ -81,16 +83,19 @@ too_long : (n : ℕ) → 4095 < n → nat_le n 4095 ≡ false
 too_long n high = grind (arith, nat_tests)
 
 pub path_passes : (path : List ℕ) → IsPath path → is_path_text path ≡ true
-path_passes path is = and_from (nat_le (length path) 4095) (utf8_valid_len path == length path) (has_length (length path) is.short) (eq-eqb (utf8_valid_len path) (length path) (utf8_valid_len-IsUtf8 path is.text))
+path_passes path is =
+    and_from (nat_le (length path) 4095) (utf8_valid_len path == length path) (has_length (length path) is.short) (eq-eqb (utf8_valid_len path) (length path) (utf8_valid_len-IsUtf8 path is.text))
 
 so_false : (b : Bool) → b && false ≡ false
 so_false true = refl
 so_false false = refl
 
 -- what is answered of a path that is none
-pub fails_path : (folder name id : List ℕ) (fault : PathFault) → IsFolder folder → is_name name ≡ true → IsPathFaultOrMemory (below folder name) fault → (path_fault_at id fault ≡ Memory) ⊎ ((path_fault_at id fault ≡ BadObject id) × (is_path_text (below folder name) ≡ false))
+pub fails_path : (folder name id : List ℕ) (fault : PathFault) → IsFolder folder → is_name name ≡ true → IsPathFaultOrMemory (below folder name) fault
+    → (path_fault_at id fault ≡ Memory) ⊎ ((path_fault_at id fault ≡ BadObject id) × (is_path_text (below folder name) ≡ false))
 fails_path folder name id paths.Empty is h fault = let some = some_below folder name h in absurd (omega arith)
-fails_path folder name id (paths.TooLong n) is h fault = let long : nat_le (length (below folder name)) 4095 ≡ false = too_long (length (below folder name)) (let same = fault.0 in let high = fault.1 in omega arith) in inr (refl, rw long refl)
+fails_path folder name id (paths.TooLong n) is h fault =
+    let long : nat_le (length (below folder name)) 4095 ≡ false = too_long (length (below folder name)) (let same = fault.0 in let high = fault.1 in omega arith) in inr (refl, rw long refl)
 fails_path folder name id (paths.NotUtf8 at) is h fault =
     let valid = utf8_valid_len-IsValidUpTo (below folder name) at fault.3 in
     let short = fault.3.short in
@@ -111,31 +116,39 @@ pub record HasTaken (folder : List ℕ) (es left : List TreeEntry) (rows : Entri
 pub none_taken : (folder : List ℕ) (es : List TreeEntry) → HasTaken folder es es []
 none_taken folder es = record { done = []; parts_are = sym (append-nil es); rows_are = refl; good = refl }
 
-pub one_taken : (folder : List ℕ) (es left : List TreeEntry) (e : TreeEntry) (rows now : Entries) → HasTaken folder es (left ++ e ∷ []) rows → has_path folder e ≡ true → now ≡ rows ++ row_at folder e ∷ [] → HasTaken folder es left now
+pub one_taken : (folder : List ℕ) (es left : List TreeEntry) (e : TreeEntry) (rows now : Entries) → HasTaken folder es (left ++ e ∷ []) rows
+    → has_path folder e ≡ true → now ≡ rows ++ row_at folder e ∷ [] → HasTaken folder es left now
 one_taken folder es left e rows now taken good is = record {
   done = e ∷ taken.done;
   parts_are = taken.parts_are ∙ append_assoc left (e ∷ []) taken.done;
-  rows_are = is ∙ (ap (λ (rs : Entries). rs ++ row_at folder e ∷ []) taken.rows_are ∙ sym (reverse-append (row_at folder e ∷ []) (map (row_at folder) taken.done)));
+  rows_are =
+      is
+      ∙ (ap (λ (rs : Entries). rs ++ row_at folder e ∷ []) taken.rows_are ∙ sym (reverse-append (row_at folder e ∷ []) (map (row_at folder) taken.done)));
   good = and_from (has_path folder e) (list_all (has_path folder) taken.done) good taken.good;
 }
 
-pub all_taken : (folder id : List ℕ) (es : List TreeEntry) (rows : Vec (List ℕ × Entry)) → HasTaken folder es [] rows.items → GivesRows folder id es (Ok rows)
+pub all_taken : (folder id : List ℕ) (es : List TreeEntry) (rows : Vec (List ℕ × Entry)) → HasTaken folder es [] rows.items
+    → GivesRows folder id es (Ok rows)
 all_taken folder id es rows taken = rw taken.parts_are (taken.rows_are, taken.good)
 
 tree_order_name : (left : List TreeEntry) (e : TreeEntry) (done : List TreeEntry) → IsTreeOrder (left ++ e ∷ done) → is_name e.name ≡ true
 tree_order_name [] e done order = order.0
 tree_order_name (d ∷ left) e done order = tree_order_name left e done order.2
 
-pub taken_name : (folder : List ℕ) (es left : List TreeEntry) (e : TreeEntry) (rows : Entries) → HasTaken folder es (left ++ e ∷ []) rows → IsTreeOrder es → is_name e.name ≡ true
-taken_name folder es left e rows taken order = tree_order_name left e taken.done (subst IsTreeOrder (taken.parts_are ∙ append_assoc left (e ∷ []) taken.done) order)
+pub taken_name : (folder : List ℕ) (es left : List TreeEntry) (e : TreeEntry) (rows : Entries) → HasTaken folder es (left ++ e ∷ []) rows
+    → IsTreeOrder es → is_name e.name ≡ true
+taken_name folder es left e rows taken order =
+    tree_order_name left e taken.done (subst IsTreeOrder (taken.parts_are ∙ append_assoc left (e ∷ []) taken.done) order)
 
-pub none_has_path : (folder : List ℕ) (es left : List TreeEntry) (e : TreeEntry) (rows : Entries) → HasTaken folder es (left ++ e ∷ []) rows → has_path folder e ≡ false → list_all (has_path folder) es ≡ false
+pub none_has_path : (folder : List ℕ) (es left : List TreeEntry) (e : TreeEntry) (rows : Entries) → HasTaken folder es (left ++ e ∷ []) rows
+    → has_path folder e ≡ false → list_all (has_path folder) es ≡ false
 none_has_path folder es left e rows taken bad =
     ap (list_all (has_path folder)) (taken.parts_are ∙ append_assoc left (e ∷ []) taken.done)
     ∙ (list_all-append (has_path folder) left (e ∷ taken.done) ∙ rw bad (so_false (list_all (has_path folder) left)))
 
 -- what is answered where a path is none
-pub rows_fail : (folder id : List ℕ) (es left : List TreeEntry) (e : TreeEntry) (rows : Entries) (fault : PathFault) → HasTaken folder es (left ++ e ∷ []) rows → IsTreeOrder es → IsFolder folder → IsPathFaultOrMemory (below folder e.name) fault
+pub rows_fail : (folder id : List ℕ) (es left : List TreeEntry) (e : TreeEntry) (rows : Entries) (fault : PathFault)
+    → HasTaken folder es (left ++ e ∷ []) rows → IsTreeOrder es → IsFolder folder → IsPathFaultOrMemory (below folder e.name) fault
     → GivesRows folder id es (Err (path_fault_at id fault))
 rows_fail folder id es left e rows fault taken order is bad =
     elim (fails_path folder e.name id fault is (taken_name folder es left e rows taken order) bad) [

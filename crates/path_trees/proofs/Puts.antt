@@ -30,12 +30,16 @@ use Rattle.path_trees.specs.Faults.{put_fault_at}
 -- ---- one tree
 
 -- a tree that was not put
-pub tree_not_put : (w : World) (tree : List TreeEntry) (fault : ObjectFault) (now : World) → HasObjectPut w (tree_object tree) (Err fault) now → HasPut (Err (put_fault_at fault)) (object_put (tree_object tree) w) now
+pub tree_not_put : (w : World) (tree : List TreeEntry) (fault : ObjectFault) (now : World) → HasObjectPut w (tree_object tree) (Err fault) now
+    → HasPut (Err (put_fault_at fault)) (object_put (tree_object tree) w) now
 tree_not_put w tree objects.Missing now is = absurd is
-tree_not_put w tree (objects.TooLarge count) now is = object_is_not_put w (tree_object tree) (objects.TooLarge count) (Stops (Limit ObjectBytes count)) now is refl
-tree_not_put w tree (objects.WrongHash id found) now is = object_is_not_put w (tree_object tree) (objects.WrongHash id found) (Stops (Place id)) now is refl
+tree_not_put w tree (objects.TooLarge count) now is =
+    object_is_not_put w (tree_object tree) (objects.TooLarge count) (Stops (Limit ObjectBytes count)) now is refl
+tree_not_put w tree (objects.WrongHash id found) now is =
+    object_is_not_put w (tree_object tree) (objects.WrongHash id found) (Stops (Place id)) now is refl
 tree_not_put w tree (objects.BadText at) now is = absurd is
-tree_not_put w tree (objects.Collision id kept) now is = object_is_not_put w (tree_object tree) (objects.Collision id kept) (Stops (Place id)) now is refl
+tree_not_put w tree (objects.Collision id kept) now is =
+    object_is_not_put w (tree_object tree) (objects.Collision id kept) (Stops (Place id)) now is refl
 tree_not_put w tree (objects.Blocked path) now is = object_is_not_put w (tree_object tree) (objects.Blocked path) (Stops (Way path)) now is refl
 tree_not_put w tree objects.Fault now is = tt
 tree_not_put w tree objects.Memory now is = tt
@@ -75,11 +79,13 @@ module _ (w : World) (tree : List TreeEntry) (id : Id) (now : World) where
   abbrev text : Text
   text = object_text o
 
-  free : (b : Bool) → go_on (if b then (Err (Way path), w) else (Ok unit, held.insert w path text)) (λ put. gives (object_id o)) ≡ (Ok id, now) → unless_taken (record { world = held.insert w path text; collision = None }) ≡ Ok now
+  free : (b : Bool) → go_on (if b then (Err (Way path), w) else (Ok unit, held.insert w path text)) (λ put. gives (object_id o)) ≡ (Ok id, now)
+      → unless_taken (record { world = held.insert w path text; collision = None }) ≡ Ok now
   free true put = let never = same_answer put in absurd cc
   free false put = ap Ok (same_world put)
 
-  same_text : (b : Bool) → looked (if b then Ok (object_id o) else Err (Place (object_id o))) w ≡ (Ok id, now) → unless_taken (record { world = w; collision = cond b None (Some (object_id o)) }) ≡ Ok now
+  same_text : (b : Bool) → looked (if b then Ok (object_id o) else Err (Place (object_id o))) w ≡ (Ok id, now)
+      → unless_taken (record { world = w; collision = cond b None (Some (object_id o)) }) ≡ Ok now
   same_text true put = ap Ok (same_world put)
   same_text false put = let never = same_answer put in absurd cc
 
@@ -88,7 +94,8 @@ module _ (w : World) (tree : List TreeEntry) (id : Id) (now : World) where
   over None put = free (is_blocked w path) put
   over (Some kept) put = same_text (bytes_eq kept text) put
 
-  by_size : (above : Bool) → go_on (looked (stop_if above (Limit ObjectBytes (length (tree_text tree)))) w) (λ small. looks (λ v. Ok (held.get v path)) >>= object_over o) ≡ (Ok id, now)
+  by_size : (above : Bool)
+      → go_on (looked (stop_if above (Limit ObjectBytes (length (tree_text tree)))) w) (λ small. looks (λ v. Ok (held.get v path)) >>= object_over o) ≡ (Ok id, now)
       → cond above (Err (IsLarge (length (tree_text tree)))) (unless_taken (put_at w (object_id o) path text (held.get w path))) ≡ Ok now
   by_size true put = let never = same_answer put in absurd cc
   by_size false put = over (held.get w path) put
@@ -103,7 +110,8 @@ unfolding each_put put_trees
 each_was_put [] w now is = ap Ok (same_world is)
 each_was_put (tree ∷ trees) w now is = by (object_put (tree_object tree) w) refl (λ next. each_was_put trees next now) is
   where
-    by : (put : Result Id Lack × World) → object_put (tree_object tree) w ≡ put → ((next : World) → each_put trees next ≡ (Ok unit, now) → put_trees next trees ≡ Ok now) → go_on put (λ id. each_put trees) ≡ (Ok unit, now)
+    by : (put : Result Id Lack × World) → object_put (tree_object tree) w ≡ put
+        → ((next : World) → each_put trees next ≡ (Ok unit, now) → put_trees next trees ≡ Ok now) → go_on put (λ id. each_put trees) ≡ (Ok unit, now)
         → and_then (put_tree w tree) (λ next. put_trees next trees) ≡ Ok now
     by (Ok id, v) is more put = ap (λ (r : Result World PutFault). and_then r (λ next. put_trees next trees)) (one_put w tree id v is) ∙ more v put
     by (Err why, v) is more put = let never = same_answer put in absurd cc
@@ -125,7 +133,8 @@ was_put w tree now is = by (nat_lt content_limit (length (tree_text tree))) refl
     at None free within put = record { within = within; free = free; world = cc }
     at (Some id) free within put = absurd cc
 
-    by : (above : Bool) → nat_lt content_limit (length (tree_text tree)) ≡ above → cond above (Err (IsLarge (length (tree_text tree)))) (unless_taken (put_object w (tree_object tree))) ≡ Ok now → WasPut w tree now
+    by : (above : Bool) → nat_lt content_limit (length (tree_text tree)) ≡ above
+        → cond above (Err (IsLarge (length (tree_text tree)))) (unless_taken (put_object w (tree_object tree))) ≡ Ok now → WasPut w tree now
     by true above put = absurd cc
     by false above put =
         let within : length (tree_text tree) ≤ content_limit = grind (arith, nat_tests) in
@@ -136,7 +145,8 @@ pub record WerePut (w : World) (tree : List TreeEntry) (trees : List (List TreeE
   pub first : put_tree w tree ≡ Ok next
   pub others : put_trees next trees ≡ Ok now
 
-pub were_put : (w : World) (tree : List TreeEntry) (trees : List (List TreeEntry)) (now : World) → put_trees w (tree ∷ trees) ≡ Ok now → WerePut w tree trees now
+pub were_put : (w : World) (tree : List TreeEntry) (trees : List (List TreeEntry)) (now : World) → put_trees w (tree ∷ trees) ≡ Ok now
+    → WerePut w tree trees now
 unfolding put_trees
 were_put w tree trees now is = by (put_tree w tree) refl is
   where
@@ -145,7 +155,8 @@ were_put w tree trees now is = by (put_tree w tree) refl is
     by (Err fault) first others = absurd cc
 
 -- so it is as if the objects of the trees were put
-pub all_put : (w : World) (trees : List (List TreeEntry)) (now : World) → put_trees w trees ≡ Ok now → put_all w (map tree_object trees) ≡ record { world = now; collision = None }
+pub all_put : (w : World) (trees : List (List TreeEntry)) (now : World) → put_trees w trees ≡ Ok now
+    → put_all w (map tree_object trees) ≡ record { world = now; collision = None }
 unfolding put_all put_trees
 all_put w [] now is = let same : w ≡ now = cc in ap (λ (v : World). record { world = v; collision = None }) same
 all_put w (tree ∷ trees) now is =

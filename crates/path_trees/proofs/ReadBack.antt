@@ -44,7 +44,8 @@ record Stands (w : World) (tree : List TreeEntry) : Type 0 where
   within : length (tree_text tree) ≤ content_limit
   file : held.get w (object_path (tree_id tree)) ≡ Some (object_text (tree_object tree))
 
-still_stands : (w now : World) (other : List TreeEntry) (trees : List (List TreeEntry)) → put_trees w trees ≡ Ok now → Stands w other → Stands now other
+still_stands : (w now : World) (other : List TreeEntry) (trees : List (List TreeEntry)) → put_trees w trees ≡ Ok now → Stands w other
+    → Stands now other
 unfolding put_trees
 still_stands w now other [] is stands = let same : w ≡ now = cc in subst (λ (v : World). Stands v other) same stands
 still_stands w now other (tree ∷ trees) is stands =
@@ -77,7 +78,8 @@ pub have_ids : (listing : Listing) → HaveRowIds (rows_in listing) → HaveIds 
 unfolding rows_in tree_entries
 have_ids NoMore ids = tt
 have_ids (OneFile name entry others) ids = (ids.0, have_ids others ids.1)
-have_ids (OneFolder name its others) ids = (length-id (tree_object (tree_entries its)), have_ids others (all_back (λ e. length e.1.id ≡ 20) (map (in_front name) (rows_in its)) (rows_in others) ids))
+have_ids (OneFolder name its others) ids =
+    (length-id (tree_object (tree_entries its)), have_ids others (all_back (λ e. length e.1.id ≡ 20) (map (in_front name) (rows_in its)) (rows_in others) ids))
 
 -- the trees of all folders below can be read
 abbrev AreFound : World → Listing → Type 0
@@ -85,11 +87,13 @@ AreFound w NoMore = Unit {0}
 AreFound w (OneFile name entry others) = AreFound w others
 AreFound w (OneFolder name its others) = (tree_at w (tree_id (tree_entries its)) ≡ Some (tree_entries its)) × AreFound w its × AreFound w others
 
-pub split_all : (P : List TreeEntry → Type 0) (xs ys : List (List TreeEntry)) → AllByRecursion P (xs ++ ys) → AllByRecursion P xs × AllByRecursion P ys
+pub split_all : (P : List TreeEntry → Type 0) (xs ys : List (List TreeEntry)) → AllByRecursion P (xs ++ ys)
+    → AllByRecursion P xs × AllByRecursion P ys
 split_all P [] ys all = (tt, all)
 split_all P (x ∷ xs) ys all = let both = split_all P xs ys all.1 in ((all.0, both.0), both.1)
 
-all_found : (w : World) (listing : Listing) → IsWhole listing → AllApart (rows_in listing) → HaveRowIds (rows_in listing) → AllByRecursion (Stands w) (folder_trees listing) → AreFound w listing
+all_found : (w : World) (listing : Listing) → IsWhole listing → AllApart (rows_in listing) → HaveRowIds (rows_in listing)
+    → AllByRecursion (Stands w) (folder_trees listing) → AreFound w listing
 unfolding rows_in folder_trees
 all_found w NoMore whole apart ids stand = tt
 all_found w (OneFile name entry others) whole apart ids stand = all_found w others whole.2 apart.1 ids.1 stand
@@ -160,7 +164,8 @@ front_text front rest is =
     let slash : get_or (front ++ 47 ∷ rest) (length front) 0 ≡ 47 = get_or-append_seam front 47 rest 0 in
     record {
       short = omega (arith, size, whole);
-      text = subst IsUtf8 (take-append_seam front (47 ∷ rest)) (IsUtf8-take (front ++ 47 ∷ rest) (length front) is.text (IsCharBoundary-before_ascii (front ++ 47 ∷ rest) (length front) within (omega (arith, slash))));
+      text =
+          subst IsUtf8 (take-append_seam front (47 ∷ rest)) (IsUtf8-take (front ++ 47 ∷ rest) (length front) is.text (IsCharBoundary-before_ascii (front ++ 47 ∷ rest) (length front) within (omega (arith, slash))));
     }
 
 -- ---- the rows of a folder, at their paths
@@ -182,17 +187,20 @@ below_some (c ∷ folder) rest some = append_assoc (c ∷ folder) (47 ∷ []) re
 below_folder : (folder name rest : List ℕ) → is_name name ≡ true → below folder (name ++ 47 ∷ rest) ≡ below (below folder name) rest
 below_folder folder name rest named = below_more folder name rest ∙ sym (below_some (below folder name) rest (some_below folder name named))
 
-inner_texts : (folder name : List ℕ) (rows : Entries) → is_name name ≡ true → AreText folder (map (in_front name) rows) → AreText (below folder name) rows
+inner_texts : (folder name : List ℕ) (rows : Entries) → is_name name ≡ true → AreText folder (map (in_front name) rows)
+    → AreText (below folder name) rows
 inner_texts folder name [] named text = tt
 inner_texts folder name (e ∷ es) named text = (subst IsText (below_folder folder name e.0 named) text.0, inner_texts folder name es named text.1)
 
-inner_rows : (folder name : List ℕ) (rows : Entries) → is_name name ≡ true → map (at_folder (below folder name)) rows ≡ map (at_folder folder) (map (in_front name) rows)
+inner_rows : (folder name : List ℕ) (rows : Entries) → is_name name ≡ true
+    → map (at_folder (below folder name)) rows ≡ map (at_folder folder) (map (in_front name) rows)
 inner_rows folder name [] named = refl
 inner_rows folder name (e ∷ es) named =
     ap (λ (p : List ℕ). (p, e.1) ∷ map (at_folder (below folder name)) es) (sym (below_folder folder name e.0 named))
     ∙ ap (λ (rows : Entries). at_folder folder (in_front name e) ∷ rows) (inner_rows folder name es named)
 
-paths_pass : (folder : List ℕ) (listing : Listing) → IsWhole listing → AreText folder (rows_in listing) → list_all (λ e. is_path_text (below folder e.name)) (tree_entries listing) ≡ true
+paths_pass : (folder : List ℕ) (listing : Listing) → IsWhole listing → AreText folder (rows_in listing)
+    → list_all (λ e. is_path_text (below folder e.name)) (tree_entries listing) ≡ true
 unfolding rows_in tree_entries
 paths_pass folder NoMore whole text = refl
 paths_pass folder (OneFile name entry others) whole text =
@@ -204,13 +212,16 @@ paths_pass folder (OneFolder name its others) whole text =
     and_from (is_path_text (below folder name)) (list_all (λ e. is_path_text (below folder e.name)) (tree_entries others)) (text_passes (below folder name) front)
     (paths_pass folder others whole.4 (all_back (λ r. IsText (below folder r.0)) (map (in_front name) (rows_in its)) (rows_in others) text))
 
-opens : (n : ℕ) (w : World) (folder id : List ℕ) (es : List TreeEntry) → tree_at w id ≡ Some es → list_all (λ e. is_path_text (below folder e.name)) es ≡ true → map_below (suc n) w folder id ≡ entries_map (map_below n w) folder es
+opens : (n : ℕ) (w : World) (folder id : List ℕ) (es : List TreeEntry) → tree_at w id ≡ Some es
+    → list_all (λ e. is_path_text (below folder e.name)) es ≡ true → map_below (suc n) w folder id ≡ entries_map (map_below n w) folder es
 unfolding map_below
-opens n w folder id es some good = ap (opened (map_below n w) folder id) some ∙ ap (λ (t : Bool). cond t (entries_map (map_below n w) folder es) (Err (BadTree id))) good
+opens n w folder id es some good =
+    ap (opened (map_below n w) folder id) some ∙ ap (λ (t : Bool). cond t (entries_map (map_below n w) folder es) (Err (BadTree id))) good
 
 -- ---- reading a listing
 
-reads : (w : World) (listing : Listing) (n : ℕ) (folder : List ℕ) → IsWhole listing → AreFound w listing → Fits n listing → AreText folder (rows_in listing) → entries_map (map_below n w) folder (tree_entries listing) ≡ Ok (map (at_folder folder) (rows_in listing))
+reads : (w : World) (listing : Listing) (n : ℕ) (folder : List ℕ) → IsWhole listing → AreFound w listing → Fits n listing
+    → AreText folder (rows_in listing) → entries_map (map_below n w) folder (tree_entries listing) ≡ Ok (map (at_folder folder) (rows_in listing))
 unfolding entries_map rows_in tree_entries
 reads w NoMore n folder whole at fits text = refl
 reads w (OneFile name entry others) n folder whole at fits text =
@@ -233,7 +244,8 @@ all_depth : (rows : Entries) → list_any (λ e. nat_lt 256 (length (parts e.0))
 all_depth [] low = tt
 all_depth (e ∷ es) low = by (nat_lt 256 (length (parts e.0))) refl (all_depth es) low
   where
-    by : (t : Bool) → nat_lt 256 (length (parts e.0)) ≡ t → (list_any (λ d. nat_lt 256 (length (parts d.0))) es ≡ false → HaveDepth 256 es) → (t || list_any (λ d. nat_lt 256 (length (parts d.0))) es) ≡ false → HaveDepth 256 (e ∷ es)
+    by : (t : Bool) → nat_lt 256 (length (parts e.0)) ≡ t → (list_any (λ d. nat_lt 256 (length (parts d.0))) es ≡ false → HaveDepth 256 es)
+        → (t || list_any (λ d. nat_lt 256 (length (parts d.0))) es) ≡ false → HaveDepth 256 (e ∷ es)
     by true is later low = absurd cc
     by false is later low = (grind (arith, nat_tests), later low)
 
@@ -245,7 +257,8 @@ at_root : (rows : Entries) → map (at_folder []) rows ≡ rows
 at_root [] = refl
 at_root (e ∷ es) = ap (λ (rows : Entries). e ∷ rows) (at_root es)
 
-pub written_back : (w now : World) (rows : Entries) → IsPathMap rows → AllByRecursion (λ e. IsPath e.0) rows → HaveRowIds rows → is_too_deep rows ≡ false → put_trees w (trees_of rows) ≡ Ok now → map_at now (root_of rows) ≡ Ok rows
+pub written_back : (w now : World) (rows : Entries) → IsPathMap rows → AllByRecursion (λ e. IsPath e.0) rows → HaveRowIds rows
+    → is_too_deep rows ≡ false → put_trees w (trees_of rows) ≡ Ok now → map_at now (root_of rows) ≡ Ok rows
 unfolding map_at root_of trees_of is_too_deep
 written_back w now rows is paths ids low put =
     let listing = listing_of rows in
@@ -263,14 +276,17 @@ written_back w now rows is paths ids low put =
 -- ---- what was written
 
 -- as if the objects of the trees were put
-pub objects_put : (rows : Entries) (w now : World) (r : Result Id TreeFault) → HasPut r (folder_put rows w) now → OnOk r (put_all w (map tree_object (trees_of rows)) ≡ record { world = now; collision = None })
+pub objects_put : (rows : Entries) (w now : World) (r : Result Id TreeFault) → HasPut r (folder_put rows w) now
+    → OnOk r (put_all w (map tree_object (trees_of rows)) ≡ record { world = now; collision = None })
 objects_put rows w now (Ok id) put = all_put w (trees_of rows) now (each_was_put (trees_of rows) w now (was_folder_put rows w id now put))
 objects_put rows w now (Err e) put = tt
 
 -- the map of the root is the map
-pub reads_back : (rows : Entries) (w now : World) (r : Result Id TreeFault) → IsPathMap rows → AllByRecursion (λ e. IsPath e.0) rows → OnOk r (HaveRowIds rows) → is_too_deep rows ≡ false → IfOk r (λ root. root ≡ root_of rows)
+pub reads_back : (rows : Entries) (w now : World) (r : Result Id TreeFault) → IsPathMap rows → AllByRecursion (λ e. IsPath e.0) rows
+    → OnOk r (HaveRowIds rows) → is_too_deep rows ≡ false → IfOk r (λ root. root ≡ root_of rows)
     → HasPut r (folder_put rows w) now → IfOk r (λ root. map_at now root ≡ Ok rows)
-reads_back rows w now (Ok id) is paths ids low root put = ap (map_at now) root ∙ written_back w now rows is paths ids low (each_was_put (trees_of rows) w now (was_folder_put rows w id now put))
+reads_back rows w now (Ok id) is paths ids low root put =
+    ap (map_at now) root ∙ written_back w now rows is paths ids low (each_was_put (trees_of rows) w now (was_folder_put rows w id now put))
 reads_back rows w now (Err e) is paths ids low root put = tt
 
 -- a map none of whose trees lies too deep, and another

@@ -32,24 +32,29 @@ pub front_off : (front p q : List ℕ) → IsApart (front ++ p) (front ++ q) →
 front_off [] p q h = h
 front_off (x ∷ front) p q h = front_off front p q (off x (front ++ p) (front ++ q) h)
 
-keys : (s t : Bool) (ra rb a b : List ℕ) → has_no_slash a ≡ true → has_no_slash b ≡ true → (s ≡ true → t ≡ true → a ≡ b → ⊥) → IsApart (a ++ tail s ra) (b ++ tail t rb) → Before s t a b
+keys : (s t : Bool) (ra rb a b : List ℕ) → has_no_slash a ≡ true → has_no_slash b ≡ true → (s ≡ true → t ≡ true → a ≡ b → ⊥)
+    → IsApart (a ++ tail s ra) (b ++ tail t rb) → Before s t a b
 keys true true ra rb [] [] ha hb other apart = absurd (other refl refl refl)
 keys true false ra rb [] [] ha hb other apart = let less = apart.less in absurd cc
 keys false true ra rb [] [] ha hb other apart = let free = apart.free in absurd cc
 keys false false ra rb [] [] ha hb other apart = let less = apart.less in absurd cc
-keys true t ra rb [] (y ∷ b) ha hb other apart = record { less = head_less 47 y (slice_cmp nat_cmp ra (b ++ tail t rb)) (slice_cmp nat_cmp [] (b ++ tail t [])) (swapped y 47 (no_slash y b hb)) apart.less; other = refl }
+keys true t ra rb [] (y ∷ b) ha hb other apart =
+    record { less = head_less 47 y (slice_cmp nat_cmp ra (b ++ tail t rb)) (slice_cmp nat_cmp [] (b ++ tail t [])) (swapped y 47 (no_slash y b hb)) apart.less; other = refl }
 keys false t ra rb [] (y ∷ b) ha hb other apart = record { less = refl; other = refl }
-keys s true ra rb (x ∷ a) [] ha hb other apart = record { less = head_less x 47 (slice_cmp nat_cmp (a ++ tail s ra) rb) (slice_cmp nat_cmp (a ++ tail s []) []) (no_slash x a ha) apart.less; other = refl }
+keys s true ra rb (x ∷ a) [] ha hb other apart =
+    record { less = head_less x 47 (slice_cmp nat_cmp (a ++ tail s ra) rb) (slice_cmp nat_cmp (a ++ tail s []) []) (no_slash x a ha) apart.less; other = refl }
 keys s false ra rb (x ∷ a) [] ha hb other apart = let less = apart.less in absurd cc
 keys s t ra rb (x ∷ a) (y ∷ b) ha hb other apart =
     at (λ differ rest. keys s t ra rb a b (and_parts (not (x == 47)) (has_no_slash a) ha).1 (and_parts (not (y == 47)) (has_no_slash b) hb).1 differ rest) (x == y) refl
   where
-    at : ((s ≡ true → t ≡ true → a ≡ b → ⊥) → IsApart (a ++ tail s ra) (b ++ tail t rb) → Before s t a b) → (same : Bool) → (x == y) ≡ same → Before s t (x ∷ a) (y ∷ b)
+    at : ((s ≡ true → t ≡ true → a ≡ b → ⊥) → IsApart (a ++ tail s ra) (b ++ tail t rb) → Before s t a b) → (same : Bool) → (x == y) ≡ same
+        → Before s t (x ∷ a) (y ∷ b)
     at later true is =
         let one : x ≡ y = eqb-true x y is in
         let rest = later (λ fs ft same. other fs ft (ap (λ (z : ℕ). z ∷ a) one ∙ ap (λ (zs : List ℕ). y ∷ zs) same)) (off x (a ++ tail s ra) (b ++ tail t rb) (subst (λ (z : ℕ). IsApart (x ∷ (a ++ tail s ra)) (z ∷ (b ++ tail t rb))) (sym one) apart)) in
         record {
-          less = subst (λ (z : ℕ). is_less (x ∷ (a ++ tail s [])) (z ∷ (b ++ tail t [])) ≡ true) one (same_less x (a ++ tail s []) (b ++ tail t []) ∙ rest.less);
+          less =
+              subst (λ (z : ℕ). is_less (x ∷ (a ++ tail s [])) (z ∷ (b ++ tail t [])) ≡ true) one (same_less x (a ++ tail s []) (b ++ tail t []) ∙ rest.less);
           other = ap (λ (e : Bool). e && bytes_eq a b) is ∙ rest.other;
         }
     at later false is = record {
@@ -64,7 +69,8 @@ abbrev pub AllApart : Entries → Type 0
 AllApart [] = Unit {0}
 AllApart (r ∷ rows) = AllByRecursion (λ d. IsApart r.0 d.0) rows × AllApart rows
 
-both : (p : List ℕ) (rows : Entries) → AllByRecursion (λ d. is_less p d.0 ≡ true) rows → AllByRecursion (λ d. clashes p d.0 ≡ false) rows → AllByRecursion (λ d. IsApart p d.0) rows
+both : (p : List ℕ) (rows : Entries) → AllByRecursion (λ d. is_less p d.0 ≡ true) rows → AllByRecursion (λ d. clashes p d.0 ≡ false) rows
+    → AllByRecursion (λ d. IsApart p d.0) rows
 both p [] less free = tt
 both p (r ∷ rows) less free = (record { less = less.0; free = free.0 }, both p rows less.1 free.1)
 
@@ -110,7 +116,8 @@ pub apart_back : (xs ys : Entries) → AllApart (xs ++ ys) → AllApart ys
 apart_back [] ys apart = apart
 apart_back (x ∷ xs) ys apart = apart_back xs ys apart.1
 
-one_inner : (name p : List ℕ) (rows : Entries) → AllByRecursion (λ d. IsApart (name ++ 47 ∷ p) d.0) (map (in_front name) rows) → AllByRecursion (λ d. IsApart p d.0) rows
+one_inner : (name p : List ℕ) (rows : Entries) → AllByRecursion (λ d. IsApart (name ++ 47 ∷ p) d.0) (map (in_front name) rows)
+    → AllByRecursion (λ d. IsApart p d.0) rows
 one_inner name p [] apart = tt
 one_inner name p (r ∷ rows) apart = (off 47 p r.0 (front_off name (47 ∷ p) (47 ∷ r.0) apart.0), one_inner name p rows apart.1)
 
@@ -142,10 +149,12 @@ record HasPath (P : List ℕ → Type 0) (e : TreeEntry) : Type 0 where
 file_path : (name : List ℕ) (mode : Mode) → is_folder mode ≡ false → name ++ tail (is_folder mode) [] ≡ name
 file_path name mode file = ap (λ (t : Bool). name ++ tail t []) file ∙ append-nil name
 
-have_paths : (P : List ℕ → Type 0) (listing : Listing) → IsWhole listing → AllByRecursion (λ d. P d.0) (rows_in listing) → AllByRecursion (HasPath P) (tree_entries listing)
+have_paths : (P : List ℕ → Type 0) (listing : Listing) → IsWhole listing → AllByRecursion (λ d. P d.0) (rows_in listing)
+    → AllByRecursion (HasPath P) (tree_entries listing)
 unfolding rows_in tree_entries
 have_paths P NoMore whole all = tt
-have_paths P (OneFile name entry others) whole all = (record { rest = []; passes = subst P (sym (file_path name entry.mode whole.1)) all.0; named = whole.0 }, have_paths P others whole.2 all.1)
+have_paths P (OneFile name entry others) whole all =
+    (record { rest = []; passes = subst P (sym (file_path name entry.mode whole.1)) all.0; named = whole.0 }, have_paths P others whole.2 all.1)
 have_paths P (OneFolder name its others) whole all =
     let first = first_row its whole.1 whole.2 in
     let inner = subst (λ (rows : Entries). AllByRecursion (λ d. P d.0) (map (in_front name) rows)) first.rows_are (all_front (λ d. P d.0) (map (in_front name) (rows_in its)) (rows_in others) all) in
@@ -155,7 +164,8 @@ have_paths P (OneFolder name its others) whole all =
 abbrev AreOther : TreeEntry → TreeEntry → Type 0
 AreOther d e = is_folder d.mode ≡ true → is_folder e.mode ≡ true → d.name ≡ e.name → ⊥
 
-entry_before : (d e : TreeEntry) (rest : List ℕ) → is_name d.name ≡ true → HasPath (IsApart (d.name ++ tail (is_folder d.mode) rest)) e → AreOther d e → IsBefore d e
+entry_before : (d e : TreeEntry) (rest : List ℕ) → is_name d.name ≡ true → HasPath (IsApart (d.name ++ tail (is_folder d.mode) rest)) e → AreOther d e
+    → IsBefore d e
 entry_before d e rest named at other =
     let before = keys (is_folder d.mode) (is_folder e.mode) rest at.rest d.name e.name (name_no_slash d.name named) (name_no_slash e.name at.named) other at.passes in
     record { less = rw (key_is d.mode d.name, key_is e.mode e.name) before.less; other = before.other }
@@ -172,19 +182,24 @@ abbrev IsFirstOther : TreeEntry → List TreeEntry → Type 0
 IsFirstOther d [] = Unit {0}
 IsFirstOther d (e ∷ es) = AreOther d e
 
-later_before : (d f : TreeEntry) (rest : List ℕ) (es : List TreeEntry) → is_name d.name ≡ true → IsBefore d f → AllByRecursion (IsBefore f) es → AllByRecursion (HasPath (IsApart (d.name ++ tail (is_folder d.mode) rest))) es → AllByRecursion (IsBefore d) es
+later_before : (d f : TreeEntry) (rest : List ℕ) (es : List TreeEntry) → is_name d.name ≡ true → IsBefore d f → AllByRecursion (IsBefore f) es
+    → AllByRecursion (HasPath (IsApart (d.name ++ tail (is_folder d.mode) rest))) es → AllByRecursion (IsBefore d) es
 later_before d f rest [] named first order at = tt
-later_before d f rest (e ∷ es) named first order at = (entry_before d e rest named at.0 (still_other d f e first order.0), later_before d f rest es named first order.1 at.1)
+later_before d f rest (e ∷ es) named first order at =
+    (entry_before d e rest named at.0 (still_other d f e first order.0), later_before d f rest es named first order.1 at.1)
 
-all_before : (d : TreeEntry) (rest : List ℕ) (es : List TreeEntry) → is_name d.name ≡ true → IsTreeOrder es → AllByRecursion (HasPath (IsApart (d.name ++ tail (is_folder d.mode) rest))) es → IsFirstOther d es → AllByRecursion (IsBefore d) es
+all_before : (d : TreeEntry) (rest : List ℕ) (es : List TreeEntry) → is_name d.name ≡ true → IsTreeOrder es
+    → AllByRecursion (HasPath (IsApart (d.name ++ tail (is_folder d.mode) rest))) es → IsFirstOther d es → AllByRecursion (IsBefore d) es
 all_before d rest [] named order at other = tt
-all_before d rest (f ∷ es) named order at other = let first = entry_before d f rest named at.0 other in (first, later_before d f rest es named first order.1 at.1)
+all_before d rest (f ∷ es) named order at other =
+    let first = entry_before d f rest named at.0 other in (first, later_before d f rest es named first order.1 at.1)
 
 file_other : (d : TreeEntry) (es : List TreeEntry) → is_folder d.mode ≡ false → IsFirstOther d es
 file_other d [] file = tt
 file_other d (e ∷ es) file = λ df ef same. absurd cc
 
-folder_other : (name id : List ℕ) (others : Listing) → IsOther name others → IsWhole others → IsFirstOther (record { mode = Folder; name = name; id = id }) (tree_entries others)
+folder_other : (name id : List ℕ) (others : Listing) → IsOther name others → IsWhole others
+    → IsFirstOther (record { mode = Folder; name = name; id = id }) (tree_entries others)
 unfolding tree_entries
 folder_other name id NoMore other whole = tt
 folder_other name id (OneFile first entry others) other whole = λ df ef same. let file = whole.1 in absurd cc

@@ -31,25 +31,31 @@ no_tree_spelled content at bad = by (tree_from content) refl
     by (Ok es) is = absurd (bad.no_text es (tree_reads.takes content es is))
     by (Err left) is = refl
 
-tree_is : (w : World) (id : List ℕ) (found : Option Object) → object_at w id ≡ found → tree_at w id ≡ option_and_then (λ o. entries_if_tree o.kind o.bytes) found
+tree_is : (w : World) (id : List ℕ) (found : Option Object) → object_at w id ≡ found
+    → tree_at w id ≡ option_and_then (λ o. entries_if_tree o.kind o.bytes) found
 unfolding tree_at
 tree_is w id found is = ap (option_and_then (λ (o : Object). entries_if_tree o.kind o.bytes)) is
 
 -- what a tree gives whose object was not read
 pub tree_missed : (w : World) (id : List ℕ) (fault : ObjectFault) → IsGot w id (Err fault) → GivesTree w id (Err (fault_at id fault)) (tree_at w id)
-tree_missed w id objects.Missing is = (refl, tree_is w id None (got_object w id (Err objects.Missing) is), record { small = not_large w id (Err objects.Missing) is tt })
+tree_missed w id objects.Missing is =
+    (refl, tree_is w id None (got_object w id (Err objects.Missing) is), record { small = not_large w id (Err objects.Missing) is tt })
 tree_missed w id (objects.TooLarge count) is = (tree_is w id None (got_object w id (Err (objects.TooLarge count)) is), is)
-tree_missed w id (objects.WrongHash wanted found) is = (refl, tree_is w id None (got_object w id (Err (objects.WrongHash wanted found)) is), record { small = not_large w id (Err (objects.WrongHash wanted found)) is tt })
-tree_missed w id (objects.BadText at) is = (refl, tree_is w id None (got_object w id (Err (objects.BadText at)) is), record { small = not_large w id (Err (objects.BadText at)) is tt })
+tree_missed w id (objects.WrongHash wanted found) is =
+    (refl, tree_is w id None (got_object w id (Err (objects.WrongHash wanted found)) is), record { small = not_large w id (Err (objects.WrongHash wanted found)) is tt })
+tree_missed w id (objects.BadText at) is =
+    (refl, tree_is w id None (got_object w id (Err (objects.BadText at)) is), record { small = not_large w id (Err (objects.BadText at)) is tt })
 tree_missed w id (objects.Collision wanted kept) is = absurd is
 tree_missed w id (objects.Blocked path) is = absurd is
 tree_missed w id objects.Fault is = tt
 tree_missed w id objects.Memory is = tt
 
 -- what a tree gives whose object was read
-pub tree_read : (w : World) (id : List ℕ) (o : Object) (r : Result (Vec TreeEntry) TreeFault) → IsGot w id (Ok o) → GivesEntries id r (entries_if_tree o.kind o.bytes) → GivesTree w id r (tree_at w id)
+pub tree_read : (w : World) (id : List ℕ) (o : Object) (r : Result (Vec TreeEntry) TreeFault) → IsGot w id (Ok o)
+    → GivesEntries id r (entries_if_tree o.kind o.bytes) → GivesTree w id r (tree_at w id)
 tree_read w id o (Ok v) got is = tree_is w id (Some o) (got_object w id (Ok o) got) ∙ is
-tree_read w id o (Err (BadObject bad)) got is = (is.0, tree_is w id (Some o) (got_object w id (Ok o) got) ∙ is.1, record { small = not_large w id (Ok o) got tt })
+tree_read w id o (Err (BadObject bad)) got is =
+    (is.0, tree_is w id (Some o) (got_object w id (Ok o) got) ∙ is.1, record { small = not_large w id (Ok o) got tt })
 tree_read w id o (Err (TooLarge count)) got is = absurd is
 tree_read w id o (Err Depth) got is = absurd is
 tree_read w id o (Err (Blocked path)) got is = absurd is

@@ -60,7 +60,8 @@ blob_has_id w id bytes e =
     let one = bound (or_stop (object_at w id) (no_object id (oversize_at w id))) (λ o. or_stop (bytes_if_blob o.kind o.bytes) (lack.Object id)) bytes e in
     at one.0.kind one.0.bytes (or_is (object_at w id) (no_object id (oversize_at w id)) one.0 one.1) (or_is (bytes_if_blob one.0.kind one.0.bytes) (lack.Object id) bytes one.2)
   where
-    at : (kind : Kind) (content : Text) → object_at w id ≡ Some (record { kind = kind; bytes = content }) → bytes_if_blob kind content ≡ Some bytes → blob_id bytes ≡ id
+    at : (kind : Kind) (content : Text) → object_at w id ≡ Some (record { kind = kind; bytes = content }) → bytes_if_blob kind content ≡ Some bytes
+        → blob_id bytes ≡ id
     at Blob content is e =
         let same : content ≡ bytes = cc in
         ap blob_id (sym same) ∙ object_has_id w id (record { kind = Blob; bytes = content }) (object_kept w id (record { kind = Blob; bytes = content }) is)

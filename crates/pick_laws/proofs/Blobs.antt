@@ -20,7 +20,8 @@ bound (Err why) f y e = absurd cc
 pub clear_is : (w : World) (index : List IndexEntry) (m : Entries) (xs : List Write) → clear_writes w index m ≡ Ok xs
     → (blobs : List Write) × (blob_writes w (filter (is_rewritten index) m) ≡ Ok blobs) × (xs ≡ removals index m ++ index_write m ∷ blobs)
 unfolding clear_writes
-clear_is w index m xs e = let b = bound (blob_writes w (filter (is_rewritten index) m)) (λ blobs. Ok (removals index m ++ index_write m ∷ blobs)) xs e in (b.0, b.1, let last = b.2 in cc)
+clear_is w index m xs e =
+    let b = bound (blob_writes w (filter (is_rewritten index) m)) (λ blobs. Ok (removals index m ++ index_write m ∷ blobs)) xs e in (b.0, b.1, let last = b.2 in cc)
 
 -- one blob, and the others
 pub record OneBlob (w : World) (e : Path × Entry) (rows : Entries) (xs : List Write) : Type 0 where

@@ -46,7 +46,8 @@ pub clean_is : (w : World) (index : List IndexEntry) (ours : Entries) (x : Unit 
 unfolding is_clean
 clean_is w index ours x e = none_changed (changed w index) (staged index ours) (not_found (dirty w index ours) Dirty x e)
 
-pub merging_clean : (w : World) (head : Id) (index : List IndexEntry) (pick : Id) (m : Merging) → merging_of w head index pick ≡ Ok m → changed w m.index ≡ None
+pub merging_clean : (w : World) (head : Id) (index : List IndexEntry) (pick : Id) (m : Merging) → merging_of w head index pick ≡ Ok m
+    → changed w m.index ≡ None
 unfolding merging_of merged_into clean_map
 merging_clean w head index pick m e =
     let two = bound (for_reason denied_file (commit_named w pick)) _ m e in

@@ -39,7 +39,8 @@ pub record WithCommit (on : Head) (head : Id) (c : CommitFields) (who : Text) (u
   pub put : object_put (commit_object c) u ≡ (Ok id, between)
   pub move : head_moved on id (pick_line head id who c.message) between ≡ (Ok tt, v)
 
-pub with_commit_is : (on : Head) (head : Id) (c : CommitFields) (who : Text) (u : World) (id : Id) (v : World) → with_commit on head c who u ≡ (Ok id, v) → WithCommit on head c who u id v
+pub with_commit_is : (on : Head) (head : Id) (c : CommitFields) (who : Text) (u : World) (id : Id) (v : World)
+    → with_commit on head c who u ≡ (Ok id, v) → WithCommit on head c who u id v
 unfolding with_commit
 with_commit_is on head c who u id v e =
     let one = bound (saying denied_git (object_put (commit_object c))) (λ x. saying denied_git (head_moved on x (pick_line head x who c.message)) >>= λ _. gives x) u id v e in
@@ -56,11 +57,14 @@ either true P Q p q = p
 either false P Q p q = q
 
 id_file : (name : Name) (id : Id) → IsBytes id × (length id ≡ 20) → SpellsFile name (Detached id) (head_text (Detached id))
-id_file name id is = either (bytes_eq name head_name) (SpellsHead (Detached id) (head_text (Detached id))) (SpellsLoose (Detached id) (head_text (Detached id))) (id_spells id is)
+id_file name id is =
+    either (bytes_eq name head_name) (SpellsHead (Detached id) (head_text (Detached id))) (SpellsLoose (Detached id) (head_text (Detached id))) (id_spells id is)
     (record { line = encode_lower id; blanks = []; end = 10 ∷ []; is_line = id_spells id is; are_blanks = refl; is_end = inr refl; bytes_are = ap (λ (l : List ℕ). l ++ 10 ∷ []) (sym (append-nil (encode_lower id))) })
 
-pub has_value : (w : World) (name : Name) (id : Id) → IsBytes id × (length id ≡ 20) → map.get w (ref_path name) ≡ Some (head_text (Detached id)) → RefAt w name (Some id)
-has_value w name id is file = subst (Decides w (λ other. RefWithin 5 w other (Some id)) name (Some id)) (sym file) (Detached id, id_file name id is, refl)
+pub has_value : (w : World) (name : Name) (id : Id) → IsBytes id × (length id ≡ 20) → map.get w (ref_path name) ≡ Some (head_text (Detached id))
+    → RefAt w name (Some id)
+has_value w name id is file =
+    subst (Decides w (λ other. RefWithin 5 w other (Some id)) name (Some id)) (sym file) (Detached id, id_file name id is, refl)
 
 -- ---- the commit
 
@@ -72,7 +76,8 @@ one_parent : (c : CommitFields) (head : Id) → c.parents ≡ head ∷ [] → na
 one_parent c head is = ap (λ (ids : List Id). nat_lt 16 (length ids)) is
 
 -- a commit whose text stands in its file is read back
-pub reads_back : (w : World) (c : CommitFields) (head : Id) → IsCommitValue c → IsBytes c.tree × (length c.tree ≡ 20) → IsBytes head × (length head ≡ 20) → c.parents ≡ head ∷ []
+pub reads_back : (w : World) (c : CommitFields) (head : Id) → IsCommitValue c → IsBytes c.tree × (length c.tree ≡ 20)
+    → IsBytes head × (length head ≡ 20) → c.parents ≡ head ∷ []
     → length (commit_text c) ≤ content_limit → map.get w (object_path (object_id (commit_object c))) ≡ Some (object_text (commit_object c)) → commit_named w (object_id (commit_object c)) ≡ Ok c
 unfolding commit_named object_named commit_in commit_spelled
 reads_back w c head value tree on parents within file =

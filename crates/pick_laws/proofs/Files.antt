@@ -31,30 +31,35 @@ less_other : (p q : Path) → is_less p q ≡ true → q ≢ p
 less_other p q less e = both_ways (is_less p p) (not_less_itself p) (ap (is_less p) (sym e) ∙ less)
 
 -- the blobs of later paths are written elsewhere
-later_away : (path : Path) (w : World) (test : Path × Entry → Bool) (rows : Entries) (xs : List Write) → ComesAfter path rows → blob_writes w (filter test rows) ≡ Ok xs → AreAway path xs
+later_away : (path : Path) (w : World) (test : Path × Entry → Bool) (rows : Entries) (xs : List Write) → ComesAfter path rows
+    → blob_writes w (filter test rows) ≡ Ok xs → AreAway path xs
 later_away path w test [] xs after is = subst (AreAway path) (sym (no_blobs w xs is)) tt
 later_away path w test (e ∷ rows) xs after is = at (test e) (λ ys more. later_away path w test rows ys after.1 more) is
   where
-    at : (b : Bool) → ((ys : List Write) → blob_writes w (filter test rows) ≡ Ok ys → AreAway path ys) → blob_writes w (cond b (e ∷ filter test rows) (filter test rows)) ≡ Ok xs → AreAway path xs
+    at : (b : Bool) → ((ys : List Write) → blob_writes w (filter test rows) ≡ Ok ys → AreAway path ys)
+        → blob_writes w (cond b (e ∷ filter test rows) (filter test rows)) ≡ Ok xs → AreAway path xs
     at true others is =
         let one = one_blob w e (filter test rows) xs is in
         subst (AreAway path) (sym one.all) ((λ same. less_other path e.0 after.0 (sym same)), others one.others one.more)
     at false others is = others xs is
 
 -- what is as it was behind one more file that was written
-weaken : (w u u' v : World) (test : Path × Entry → Bool) (path : Path) (rows : Entries) → ((q : Path) → q ≢ path → held.get u' q ≡ held.get u q) → ComesAfter path rows → AllByRecursion (FileIs w u' v test) rows → AllByRecursion (FileIs w u v test) rows
+weaken : (w u u' v : World) (test : Path × Entry → Bool) (path : Path) (rows : Entries) → ((q : Path) → q ≢ path → held.get u' q ≡ held.get u q)
+    → ComesAfter path rows → AllByRecursion (FileIs w u' v test) rows → AllByRecursion (FileIs w u v test) rows
 weaken w u u' v test path [] same after files = tt
 weaken w u u' v test path (e ∷ rows) same after files = (
   record { written = files.0.written; kept = λ off. files.0.kept off ∙ same e.0 (less_other path e.0 after.0) },
   weaken w u u' v test path rows same after.1 files.1,
 )
 
-pub files_are : (w u v : World) (test : Path × Entry → Bool) (rows : Entries) (xs : List Write) → IsAscending rows → blob_writes w (filter test rows) ≡ Ok xs → writes_made xs u ≡ (Ok tt, v) → AllByRecursion (FileIs w u v test) rows
+pub files_are : (w u v : World) (test : Path × Entry → Bool) (rows : Entries) (xs : List Write) → IsAscending rows
+    → blob_writes w (filter test rows) ≡ Ok xs → writes_made xs u ≡ (Ok tt, v) → AllByRecursion (FileIs w u v test) rows
 unfolding writes_made write_made
 files_are w u v test [] xs order is made = tt
 files_are w u v test (e ∷ rows) xs order is made = at (test e) refl (λ mid ys more writes. files_are w mid v test rows ys order.1 more writes) is
   where
-    at : (b : Bool) → test e ≡ b → ((mid : World) (ys : List Write) → blob_writes w (filter test rows) ≡ Ok ys → writes_made ys mid ≡ (Ok tt, v) → AllByRecursion (FileIs w mid v test) rows)
+    at : (b : Bool) → test e ≡ b
+        → ((mid : World) (ys : List Write) → blob_writes w (filter test rows) ≡ Ok ys → writes_made ys mid ≡ (Ok tt, v) → AllByRecursion (FileIs w mid v test) rows)
         → blob_writes w (cond b (e ∷ filter test rows) (filter test rows)) ≡ Ok xs → AllByRecursion (FileIs w u v test) (e ∷ rows)
     at true on others is =
         let one = one_blob w e (filter test rows) xs is in

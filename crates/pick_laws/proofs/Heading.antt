@@ -24,14 +24,16 @@ some_there : (o : Option Text) (text : Text) → o ≡ Some text → o ≢ None
 some_there o text e n = absurd cc
 
 -- the value of HEAD, where its own file has one
-own_value : (v : World) (name : Name) (id : Id) (text : Text) → name ≡ head_name → RefAt v name (Some id) → map.get v (ref_path name) ≡ Some text → value_at v head_name ≡ Ok (Some id)
+own_value : (v : World) (name : Name) (id : Id) (text : Text) → name ≡ head_name → RefAt v name (Some id) → map.get v (ref_path name) ≡ Some text
+    → value_at v head_name ≡ Ok (Some id)
 own_value v name id text same value file =
     value_from v head_name (Some id) (λ _. some_there (map.get v (ref_path head_name)) text (subst (λ (n : Name). map.get v (ref_path n) ≡ Some text) same file)) (subst (λ (n : Name). RefAt v n (Some id)) same value)
 
 left_is : (r : Result (Unit {0}) Lack × World) (aim v : World) → LeavesIfOk r aim → r ≡ (Ok tt, v) → v ≡ aim
 left_is r aim v leaves is = subst (λ (s : Result (Unit {0}) Lack × World). LeavesIfOk s aim) is leaves
 
-pub head_has : (on : Head) (w between v : World) (id : Id) (line : LogLine) (text : Text) → IsHeadValue on → IsId id → head_at w ≡ Ok on → map.get between (ref_path head_name) ≡ map.get w (ref_path head_name)
+pub head_has : (on : Head) (w between v : World) (id : Id) (line : LogLine) (text : Text) → IsHeadValue on → IsId id → head_at w ≡ Ok on
+    → map.get between (ref_path head_name) ≡ map.get w (ref_path head_name)
     → head_moved on id line between ≡ (Ok tt, v) → RefAt v (moved_name on) (Some id) → map.get v (ref_path (moved_name on)) ≡ Some text → value_at v head_name ≡ Ok (Some id)
 head_has (Detached old) w between v id line text is bytes found same moves value file = own_value v head_name id text refl value file
 head_has (Branch name) w between v id line text is bytes found same moves value file = elim (cases_Bool (bytes_eq name head_name)) [

@@ -50,7 +50,8 @@ pub record HasPicked (finding : Finding) (zone : Text) (secs : ℤ) (w : World) 
   pub switched : switched_to finding.merging.index finding.merging.ours finding.merging.map finding.merging.commit.message w ≡ (Ok tree, between)
   pub with : WithCommit finding.on finding.head (commit_of finding tree (ident_at finding zone secs)) (ident_text (ident_at finding zone secs)) between id v
 
-pub picked_is : (env : Env) (secs : ℤ) (word : Text) (w : World) (finding : Finding) (id : Id) (v : World) → found env.vars word w ≡ Ok finding → picked env secs word w ≡ (Ok id, v) → HasPicked finding env.zone secs w id v
+pub picked_is : (env : Env) (secs : ℤ) (word : Text) (w : World) (finding : Finding) (id : Id) (v : World) → found env.vars word w ≡ Ok finding
+    → picked env secs word w ≡ (Ok id, v) → HasPicked finding env.zone secs w id v
 unfolding picked prepared prepared_from merge_made finished committed
 picked_is env secs word w finding id v is e =
     let one = bound (prepared env.vars word) (λ pick. finished pick env.zone secs) w id v e in
@@ -66,7 +67,8 @@ picked_is env secs word w finding id v is e =
       tree = three.given;
       between = three.between;
       switched = three.first;
-      with = with_commit_is finding.on finding.head (commit_of finding three.given (ident_at finding env.zone secs)) (ident_text (ident_at finding env.zone secs)) three.between id v end;
+      with =
+          with_commit_is finding.on finding.head (commit_of finding three.given (ident_at finding env.zone secs)) (ident_text (ident_at finding env.zone secs)) three.between id v end;
     }
 
 widths_of : (es : Entries) → AllByRecursion (λ e. IsId e.1.id) es → AllByRecursion (λ e. HasIdWidth e.1.id) es
@@ -101,14 +103,18 @@ leaves env word pick id is_made =
     let own : held.get v (object_path (object_id (commit_object c))) ≡ Some (object_text (commit_object c)) = subst (λ (i : Id). held.get v (object_path i) ≡ Some (object_text (commit_object c))) s.id_is file in
     let value_is = has_value v (moved_name finding.on) id is_made.commit_id m.file in
     record {
-      head = head_has finding.on w p.with.between v id _ _ sound.on is_made.commit_id there.on (head_stays finding.on finding.head c (ident_text ident) merging.index merging.map merging.commit.message w p.tree id p.between v name sound.paths made p.with) p.with.move value_is m.file;
+      head =
+          head_has finding.on w p.with.between v id _ _ sound.on is_made.commit_id there.on (head_stays finding.on finding.head c (ident_text ident) merging.index merging.map merging.commit.message w p.tree id p.between v name sound.paths made p.with) p.with.move value_is m.file;
       value = value_is;
       commit = c;
       reads = subst (λ (i : Id). commit_named v i ≡ Ok c) (sym s.id_is) (reads_back v c finding.head value tree sound.head refl s.within own);
       parent = refl;
       author = refl;
       message = refl;
-      tree = tree_has finding.on finding.head c (ident_text ident) merging.index merging.map merging.commit.message w p.tree id p.between v name sound.paths made p.with sound.map (widths_of merging.map sound.ids);
-      index = index_has finding.on finding.head c (ident_text ident) merging.index merging.map merging.commit.message w p.tree id p.between v name sound.paths made p.with sound.map few (widths_of merging.map sound.ids) (bytes_of merging.map sound.ids);
-      unstaged = nothing_unstaged finding.on finding.head c (ident_text ident) merging.index merging.map merging.commit.message w p.tree id p.between v name sound.paths made p.with sound.map sound.order there.clean;
+      tree =
+          tree_has finding.on finding.head c (ident_text ident) merging.index merging.map merging.commit.message w p.tree id p.between v name sound.paths made p.with sound.map (widths_of merging.map sound.ids);
+      index =
+          index_has finding.on finding.head c (ident_text ident) merging.index merging.map merging.commit.message w p.tree id p.between v name sound.paths made p.with sound.map few (widths_of merging.map sound.ids) (bytes_of merging.map sound.ids);
+      unstaged =
+          nothing_unstaged finding.on finding.head c (ident_text ident) merging.index merging.map merging.commit.message w p.tree id p.between v name sound.paths made p.with sound.map sound.order there.clean;
     }

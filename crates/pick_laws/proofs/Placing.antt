@@ -33,10 +33,12 @@ pub index_no_log : (name : Name) → index_path ≢ log_path name
 index_no_log name = differs index_path (log_path name) (λ k. absurd (omega arith))
 
 pub object_no_ref : (id : Id) (name : Name) → IsRefName name → object_path id ≢ ref_path name
-object_no_ref id name is = differs (object_path id) (ref_path name) (first_of (λ b. 111 ≡ b → ⊥) (λ k. absurd (omega arith)) (λ k. absurd (omega arith)) name is)
+object_no_ref id name is =
+    differs (object_path id) (ref_path name) (first_of (λ b. 111 ≡ b → ⊥) (λ k. absurd (omega arith)) (λ k. absurd (omega arith)) name is)
 
 pub index_no_ref : (name : Name) → IsRefName name → index_path ≢ ref_path name
-index_no_ref name is = differs index_path (ref_path name) (first_of (λ b. 105 ≡ b → ⊥) (λ k. absurd (omega arith)) (λ k. absurd (omega arith)) name is)
+index_no_ref name is =
+    differs index_path (ref_path name) (first_of (λ b. 105 ≡ b → ⊥) (λ k. absurd (omega arith)) (λ k. absurd (omega arith)) name is)
 
 -- a path of the worktree does not lie in `.git`
 pub not_in_git : (rest : List ℕ) → IsPath (codes ".git/" ++ rest) → ⊥

@@ -46,7 +46,9 @@ module _ (o : Object) (u : World) (id : Id) (v : World) where
   abbrev text : Text
   text = object_text o
 
-  put_new : length o.bytes ≤ content_limit → map.get u path ≡ None → (b : Bool) → go_on (cond {A = Result (Unit {0}) Lack × World} b (Err (Way path), u) (Ok tt, map.insert u path text)) (λ put. gives (object_id o)) ≡ (Ok id, v) → IsStored o u id v
+  put_new : length o.bytes ≤ content_limit → map.get u path ≡ None → (b : Bool)
+      → go_on (cond {A = Result (Unit {0}) Lack × World} b (Err (Way path), u) (Ok tt, map.insert u path text)) (λ put. gives (object_id o)) ≡ (Ok id, v)
+      → IsStored o u id v
   put_new within none true e = let never = same_answer e in absurd cc
   put_new within none false e =
       let same = both_are {E = Lack} (object_id o) id (map.insert u path text) v e in
@@ -59,7 +61,8 @@ module _ (o : Object) (u : World) (id : Id) (v : World) where
         elsewhere = λ q other. put_there u path text q other;
       })
 
-  put_old : length o.bytes ≤ content_limit → (kept : Text) → map.get u path ≡ Some kept → (b : Bool) → bytes_eq kept text ≡ b → looked (cond {A = Result Id Lack} b (Ok (object_id o)) (Err (Place (object_id o)))) u ≡ (Ok id, v) → IsStored o u id v
+  put_old : length o.bytes ≤ content_limit → (kept : Text) → map.get u path ≡ Some kept → (b : Bool) → bytes_eq kept text ≡ b
+      → looked (cond {A = Result Id Lack} b (Ok (object_id o)) (Err (Place (object_id o)))) u ≡ (Ok id, v) → IsStored o u id v
   put_old within kept there true is e =
       let same = both_are {E = Lack} (object_id o) id u v e in
       subst (λ (t : Id × World). IsStored o u t.0 t.1) same
@@ -77,7 +80,9 @@ module _ (o : Object) (u : World) (id : Id) (v : World) where
   put_over within None is e = put_new within is (is_blocked u path) e
   put_over within (Some kept) is e = put_old within kept is (bytes_eq kept text) refl e
 
-  put_sized : (b : Bool) → nat_lt content_limit (length o.bytes) ≡ b → go_on (looked (stop_if b (Limit ObjectBytes (length o.bytes))) u) (λ small. looks (λ w. Ok (map.get w path)) >>= object_over o) ≡ (Ok id, v) → IsStored o u id v
+  put_sized : (b : Bool) → nat_lt content_limit (length o.bytes) ≡ b
+      → go_on (looked (stop_if b (Limit ObjectBytes (length o.bytes))) u) (λ small. looks (λ w. Ok (map.get w path)) >>= object_over o) ≡ (Ok id, v)
+      → IsStored o u id v
   put_sized true is e = let never = same_answer e in absurd cc
   put_sized false is e = put_over (grind (arith, nat_tests)) (map.get u path) refl e
 
@@ -92,7 +97,8 @@ pub record IsMoved (branch : Name) (id : Id) (u v : World) : Type 0 where
   pub file : map.get v (ref_path branch) ≡ Some (head_text (Detached id))
   pub elsewhere : (path : Path) → path ≢ ref_path branch → path ≢ log_path branch → path ≢ log_path head_name → map.get v path ≡ map.get u path
 
-line_elsewhere : (name : Name) (line : LogLine) (u v : World) → line_added name line u ≡ (Ok tt, v) → (q : Path) → q ≢ log_path name → map.get v q ≡ map.get u q
+line_elsewhere : (name : Name) (line : LogLine) (u v : World) → line_added name line u ≡ (Ok tt, v) → (q : Path) → q ≢ log_path name
+    → map.get v q ≡ map.get u q
 unfolding line_added
 line_elsewhere name line u v e q other = at (has_log name) (unwrap_or (map.get u (log_path name)) [] ++ log_text line) e
   where
@@ -101,21 +107,29 @@ line_elsewhere name line u v e q other = at (has_log name) (unwrap_or (map.get u
     at false text e = ap (λ (w : World). map.get w q) (sym (same_world e))
 
 pub first_of : (P : ℕ → Type 0) → P 72 → P 114 → (name : Name) → IsRefName name → P (get_or name 0 0)
-first_of P head below name is = each_name (λ n. P (get_or n 0 0)) name head (λ h. subst (λ (n : Name). P (get_or n 0 0)) (sym (behind_front (codes "refs/") name (below_refs name h).begins)) below) is
+first_of P head below name is =
+    each_name (λ n. P (get_or n 0 0)) name head (λ h. subst (λ (n : Name). P (get_or n 0 0)) (sym (behind_front (codes "refs/") name (below_refs name h).begins)) below) is
 
 pub ref_no_log : (name other : Name) → IsRefName name → ref_path name ≢ log_path other
-ref_no_log name other is e = first_of (λ b. b ≡ 108 → ⊥) (λ k. absurd (omega arith)) (λ k. absurd (omega arith)) name is (ap (λ (l : List ℕ). get_or l 5 0) e)
+ref_no_log name other is e =
+    first_of (λ b. b ≡ 108 → ⊥) (λ k. absurd (omega arith)) (λ k. absurd (omega arith)) name is (ap (λ (l : List ℕ). get_or l 5 0) e)
 
-branch_is_moved : (branch : Name) (id : Id) (line : LogLine) (u v : World) → IsRefName branch → branch_moved branch id line u ≡ (Ok tt, v) → IsMoved branch id u v
+branch_is_moved : (branch : Name) (id : Id) (line : LogLine) (u v : World) → IsRefName branch → branch_moved branch id line u ≡ (Ok tt, v)
+    → IsMoved branch id u v
 unfolding branch_moved lines_added head_logged ref_set
 branch_is_moved branch id line u v name e =
     let one = bound (ref_set branch id) (λ _. lines_added branch line) u tt v e in
     let two = bound (line_added branch line) (λ _. head_logged line) one.between tt v one.then in
     let set = was_put (ref_path branch) (head_text (Detached id)) u one.between one.first in
     record {
-      file = line_elsewhere head_name line two.between v two.then (ref_path branch) (ref_no_log branch head_name name) ∙ line_elsewhere branch line one.between two.between two.first (ref_path branch) (ref_no_log branch branch name)
+      file =
+          line_elsewhere head_name line two.between v two.then (ref_path branch) (ref_no_log branch head_name name)
+          ∙ line_elsewhere branch line one.between two.between two.first (ref_path branch) (ref_no_log branch branch name)
           ∙ ap (λ (w : World). map.get w (ref_path branch)) set ∙ put_here u (ref_path branch) (head_text (Detached id));
-      elsewhere = λ q ref log head. line_elsewhere head_name line two.between v two.then q head ∙ line_elsewhere branch line one.between two.between two.first q log ∙ ap (λ (w : World). map.get w q) set ∙ put_there u (ref_path branch) (head_text (Detached id)) q ref;
+      elsewhere =
+          λ q ref log head. line_elsewhere head_name line two.between v two.then q head
+          ∙ line_elsewhere branch line one.between two.between two.first q log ∙ ap (λ (w : World). map.get w q) set
+          ∙ put_there u (ref_path branch) (head_text (Detached id)) q ref;
     }
 
 detached_is_moved : (id : Id) (line : LogLine) (u v : World) → detached_moved id line u ≡ (Ok tt, v) → IsMoved head_name id u v
@@ -124,11 +138,16 @@ detached_is_moved id line u v e =
     let one = bound (ref_set head_name id) (λ _. head_logged line) u tt v e in
     let set = was_put (ref_path head_name) (head_text (Detached id)) u one.between one.first in
     record {
-      file = line_elsewhere head_name line one.between v one.then (ref_path head_name) (ref_no_log head_name head_name refl) ∙ ap (λ (w : World). map.get w (ref_path head_name)) set ∙ put_here u (ref_path head_name) (head_text (Detached id));
-      elsewhere = λ q ref log head. line_elsewhere head_name line one.between v one.then q head ∙ ap (λ (w : World). map.get w q) set ∙ put_there u (ref_path head_name) (head_text (Detached id)) q ref;
+      file =
+          line_elsewhere head_name line one.between v one.then (ref_path head_name) (ref_no_log head_name head_name refl)
+          ∙ ap (λ (w : World). map.get w (ref_path head_name)) set ∙ put_here u (ref_path head_name) (head_text (Detached id));
+      elsewhere =
+          λ q ref log head. line_elsewhere head_name line one.between v one.then q head ∙ ap (λ (w : World). map.get w q) set
+          ∙ put_there u (ref_path head_name) (head_text (Detached id)) q ref;
     }
 
-pub moved : (on : Head) (id : Id) (line : LogLine) (u v : World) → IsRefName (moved_name on) → head_moved on id line u ≡ (Ok tt, v) → IsMoved (moved_name on) id u v
+pub moved : (on : Head) (id : Id) (line : LogLine) (u v : World) → IsRefName (moved_name on) → head_moved on id line u ≡ (Ok tt, v)
+    → IsMoved (moved_name on) id u v
 unfolding head_moved
 moved (Branch branch) id line u v name e = branch_is_moved branch id line u v name e
 moved (Detached old) id line u v name e = detached_is_moved id line u v e

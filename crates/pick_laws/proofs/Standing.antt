@@ -32,7 +32,8 @@ use Rattle.pick_laws.proofs.Unstaged.{all_there, each_unchanged, first_fails, ke
 use Rattle.pick_laws.proofs.Staying.{path_there}
 
 -- the file of a row that is no submodule has its blob
-row_has : (w trees mid files v : World) (index : List IndexEntry) (e : Path × Entry) → AllByRecursion (λ d. is_changed w d ≡ false) index → held.get v e.0 ≡ held.get files e.0 → held.get mid e.0 ≡ held.get w e.0
+row_has : (w trees mid files v : World) (index : List IndexEntry) (e : Path × Entry) → AllByRecursion (λ d. is_changed w d ≡ false) index
+    → held.get v e.0 ≡ held.get files e.0 → held.get mid e.0 ≡ held.get w e.0
     → FileIs trees mid files (is_rewritten index) e → is_gitlink e.1.mode ≡ false → has_blob (held.get v e.0) e.1.id ≡ true
 row_has w trees mid files v index e clean end begin is file = at (is_rewritten index e) refl
   where
@@ -59,7 +60,8 @@ module _ (on : Head) (head : Id) (c : CommitFields) (who : Text) (index : List I
       one_away (index_write m) half.mid step.between q step.first (path_no_git q (codes "index") is) ∙ writes_away (removals index m) made.with_trees half.mid q half.first (not_removed q index m index there)
       ∙ made.trees.stored.elsewhere q (λ i. path_no_git q (drop 5 (object_path i)) is)
 
-  rows_unchanged : AllByRecursion (λ d. is_changed w d ≡ false) index → (rows : Entries) → AllByRecursion (λ e. IsPath e.0) rows → AllByRecursion (λ e. is_none (entry_at m e.0) ≡ false) rows
+  rows_unchanged : AllByRecursion (λ d. is_changed w d ≡ false) index → (rows : Entries) → AllByRecursion (λ e. IsPath e.0) rows
+      → AllByRecursion (λ e. is_none (entry_at m e.0) ≡ false) rows
       → AllByRecursion (FileIs made.with_trees step.between made.with_files (is_rewritten index)) rows → AllByRecursion (λ e. is_changed v e ≡ false) (indexed rows)
   rows_unchanged clean [] are there files = tt
   rows_unchanged clean (e ∷ rows) are there files = (

@@ -46,15 +46,18 @@ both_away : (q : Path) (xs ys : List Write) → AreAway q xs → AreAway q ys �
 both_away q [] ys a b = b
 both_away q (x ∷ xs) ys a b = (a.0, both_away q xs ys a.1 b)
 
-removals_away : (rest : Path) (from : List IndexEntry) (m : Entries) (index : List IndexEntry) → AllByRecursion (λ e. IsPath e.path) index → AreAway (codes ".git/" ++ rest) (removals_of from m index)
+removals_away : (rest : Path) (from : List IndexEntry) (m : Entries) (index : List IndexEntry) → AllByRecursion (λ e. IsPath e.path) index
+    → AreAway (codes ".git/" ++ rest) (removals_of from m index)
 removals_away rest from m [] paths = tt
 removals_away rest from m (e ∷ index) paths = at (is_dropped from m e) (removals_away rest from m index paths.1)
   where
-    at : (b : Bool) → AreAway (codes ".git/" ++ rest) (removals_of from m index) → AreAway (codes ".git/" ++ rest) (map (λ d. Remove d.path) (cond b (e ∷ filter (is_dropped from m) index) (filter (is_dropped from m) index)))
+    at : (b : Bool) → AreAway (codes ".git/" ++ rest) (removals_of from m index)
+        → AreAway (codes ".git/" ++ rest) (map (λ d. Remove d.path) (cond b (e ∷ filter (is_dropped from m) index) (filter (is_dropped from m) index)))
     at true others = (λ is. path_no_git e.path rest paths.0 (sym is), others)
     at false others = others
 
-blobs_away : (rest : Path) (w : World) (rows : Entries) (blobs : List Write) → AllByRecursion (λ e. IsPath e.0) rows → blob_writes w rows ≡ Ok blobs → AreAway (codes ".git/" ++ rest) blobs
+blobs_away : (rest : Path) (w : World) (rows : Entries) (blobs : List Write) → AllByRecursion (λ e. IsPath e.0) rows → blob_writes w rows ≡ Ok blobs
+    → AreAway (codes ".git/" ++ rest) blobs
 blobs_away rest w [] blobs paths is = subst (AreAway (codes ".git/" ++ rest)) (sym (no_blobs w blobs is)) tt
 blobs_away rest w (e ∷ rows) blobs paths is =
     let one = one_blob w e rows blobs is in
@@ -79,7 +82,8 @@ module _ (on : Head) (head : Id) (c : CommitFields) (who : Text) (index : List I
   at_head = moved on id (pick_line head id who c.message) with.between v name with.move
 
   blobs_at : (rest : Path) → AreAway (codes ".git/" ++ rest) made.switched.blobs
-  blobs_at rest = blobs_away rest made.with_trees (filter (is_rewritten index) m) made.switched.blobs (kept_paths (is_rewritten index) m paths.merged) made.switched.are_blobs
+  blobs_at rest =
+      blobs_away rest made.with_trees (filter (is_rewritten index) m) made.switched.blobs (kept_paths (is_rewritten index) m paths.merged) made.switched.are_blobs
 
   object_switched : (i : Id) → held.get made.with_files (object_path i) ≡ held.get made.with_trees (object_path i)
   object_switched i =
@@ -110,10 +114,14 @@ module _ (on : Head) (head : Id) (c : CommitFields) (who : Text) (index : List I
       ∙ ap (λ (x : World). held.get x index_path) made.message_is ∙ put_there made.with_files message_path message index_path index_no_message
       ∙ writes_here (removals index m) made.switched.blobs index_path (index_text (indexed m)) made.with_trees made.with_files made.switched.made (blobs_at (codes "index"))
 
-  pub index_has : IsPathMap m → length m < 2 ^ 32 → AllByRecursion (λ e. HasIdWidth e.1.id) m → AllByRecursion (λ e. IsBytes e.1.id) m → index_at v ≡ Ok (indexed m)
-  index_has is few widths bytes = rw index_file (index_again (index_text (indexed m)) (indexed m) (text_spells (indexed m) (indexed_is_index m is few) (rows m is.files paths.merged widths bytes)))
+  pub index_has : IsPathMap m → length m < 2 ^ 32 → AllByRecursion (λ e. HasIdWidth e.1.id) m → AllByRecursion (λ e. IsBytes e.1.id) m
+      → index_at v ≡ Ok (indexed m)
+  index_has is few widths bytes =
+      rw index_file (index_again (index_text (indexed m)) (indexed m) (text_spells (indexed m) (indexed_is_index m is few) (rows m is.files paths.merged widths bytes)))
     where
-      rows : (es : Entries) → AllByRecursion (λ e. e.1.mode ≡ Folder → ⊥) es → AllByRecursion (λ e. IsPath e.0) es → AllByRecursion (λ e. HasIdWidth e.1.id) es → AllByRecursion (λ e. IsBytes e.1.id) es → AllByRecursion (λ e. IsRow (no_stat, e)) (indexed es)
+      rows : (es : Entries) → AllByRecursion (λ e. e.1.mode ≡ Folder → ⊥) es → AllByRecursion (λ e. IsPath e.0) es
+          → AllByRecursion (λ e. HasIdWidth e.1.id) es → AllByRecursion (λ e. IsBytes e.1.id) es
+          → AllByRecursion (λ e. IsRow (no_stat, e)) (indexed es)
       rows [] files paths widths bytes = tt
       rows (e ∷ es) files paths widths bytes = (
         record { stat = record { times = refl; owner = refl; assumed = omega arith }; staged = record { stage = omega arith; mode = files.0 }; path = paths.0; id = widths.0; bytes = bytes.0 },

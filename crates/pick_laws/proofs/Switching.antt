@@ -74,7 +74,9 @@ trees_put_is m u tree v e = at (is_too_deep m) refl e
         let put = each_was_put (trees_of m) u one.between one.first in
         subst (λ (t : Id × World). HasTrees m u t.0 t.1) same (record { deep = shallow; root = refl; put = put; stored = trees_stored (trees_of m) u one.between one.first })
 
-    at : (b : Bool) → is_too_deep m ≡ b → go_on (looked (stop_if b (lack.Limit TreeDepth 257)) u) (λ _. each_put (trees_of m) >>= λ _. gives (root_of m)) ≡ (Ok tree, v) → HasTrees m u tree v
+    at : (b : Bool) → is_too_deep m ≡ b
+        → go_on (looked (stop_if b (lack.Limit TreeDepth 257)) u) (λ _. each_put (trees_of m) >>= λ _. gives (root_of m)) ≡ (Ok tree, v)
+        → HasTrees m u tree v
     at true is e = let never = same_answer e in absurd cc
     at false is e = folder is e
 
@@ -105,7 +107,8 @@ writes_away (x ∷ xs) u v q e away =
     writes_away xs one.between v q one.then away.1 ∙ one_away x u one.between q one.first away.0
 
 -- a file that is put, and no more written
-pub writes_here : (front back : List Write) (path bytes : Text) (u v : World) → writes_made (front ++ Put path bytes ∷ back) u ≡ (Ok tt, v) → AreAway path back → held.get v path ≡ Some bytes
+pub writes_here : (front back : List Write) (path bytes : Text) (u v : World) → writes_made (front ++ Put path bytes ∷ back) u ≡ (Ok tt, v)
+    → AreAway path back → held.get v path ≡ Some bytes
 unfolding writes_made write_made
 writes_here [] back path bytes u v e away =
     let one = bound (put_in path bytes) (λ _. writes_made back) u tt v e in
@@ -139,7 +142,8 @@ pub record HasMade (index : List IndexEntry) (m : Entries) (message : Text) (u :
   pub switched : HasSwitched index m with_trees with_files
   pub message_is : v ≡ held.insert with_files message_path message
 
-clear_to_is : (index : List IndexEntry) (m : Entries) (message : Text) (u : World) (tree : Id) (v : World) → switched_clear_to index m message u ≡ (Ok tree, v) → HasMade index m message u tree v
+clear_to_is : (index : List IndexEntry) (m : Entries) (message : Text) (u : World) (tree : Id) (v : World)
+    → switched_clear_to index m message u ≡ (Ok tree, v) → HasMade index m message u tree v
 unfolding switched_clear_to
 clear_to_is index m message u tree v e =
     let one = bound (saying denied_git (trees_put m)) (λ x. saying denied_file (switched_clear index m) >>= λ _. saying denied_git (put_in message_path message) >>= λ _. gives x) u tree v e in
@@ -151,7 +155,8 @@ clear_to_is index m message u tree v e =
     let same = both_are {E = Denial} one.given tree three.between v three.then in
     subst (λ (t : Id × World). HasMade index m message u t.0 t.1) same (record { with_trees = one.between; with_files = two.between; trees = trees; switched = files; message_is = text })
 
-pub made_is : (index : List IndexEntry) (ours m : Entries) (message : Text) (u : World) (tree : Id) (v : World) → switched_to index ours m message u ≡ (Ok tree, v) → HasMade index m message u tree v
+pub made_is : (index : List IndexEntry) (ours m : Entries) (message : Text) (u : World) (tree : Id) (v : World)
+    → switched_to index ours m message u ≡ (Ok tree, v) → HasMade index m message u tree v
 unfolding switched_to
 made_is index ours m message u tree v e =
     let one = bound (looked (can_have ours m)) (λ _. looks (λ w. refuse_found (first_obstructed w index m) WouldOverwrite) >>= λ _. switched_clear_to index m message) u tree v e in
@@ -161,12 +166,15 @@ made_is index ours m message u tree v e =
     clear_to_is index m message u tree v (ap (switched_clear_to index m message) (same ∙ again) ∙ two.then)
 
 -- a map that was made is not too large for an index
-pub few_made : (index : List IndexEntry) (ours m : Entries) (message : Text) (u : World) (tree : Id) (v : World) → switched_to index ours m message u ≡ (Ok tree, v) → length m < 2 ^ 32
+pub few_made : (index : List IndexEntry) (ours m : Entries) (message : Text) (u : World) (tree : Id) (v : World)
+    → switched_to index ours m message u ≡ (Ok tree, v) → length m < 2 ^ 32
 unfolding switched_to can_have
 few_made index ours m message u tree v e =
     let one = bound (looked (can_have ours m)) (λ _. looks (λ w. refuse_found (first_obstructed w index m) WouldOverwrite) >>= λ _. switched_clear_to index m message) u tree v e in
     at (nat_lt index_limit (length m)) refl (looked_at (can_have ours m) u one.given one.between one.first).0
   where
-    at : (b : Bool) → nat_lt index_limit (length m) ≡ b → cond {A = Result (Unit {0}) Denial} b (Err (Limit IndexEntries (length m))) (cond (is_none (staged (indexed m) ours)) (Err (Refused NotBuilt)) (Ok tt)) ≡ Ok tt → length m < 2 ^ 32
+    at : (b : Bool) → nat_lt index_limit (length m) ≡ b
+        → cond {A = Result (Unit {0}) Denial} b (Err (Limit IndexEntries (length m))) (cond (is_none (staged (indexed m) ours)) (Err (Refused NotBuilt)) (Ok tt)) ≡ Ok tt
+        → length m < 2 ^ 32
     at true is e = absurd cc
     at false is e = let low : length m ≤ index_limit = grind (arith, nat_tests) in omega arith

@@ -20,7 +20,8 @@ pub record Bound {E X Y : Type 0} (step : Turn E X) (next : X → Turn E Y) (w :
   pub first : step w ≡ (Ok given, between)
   pub then : next given between ≡ (Ok y, v)
 
-pub bound : {E X Y : Type 0} (step : Turn E X) (next : X → Turn E Y) (w : World) (y : Y) (v : World) → (step >>= next) w ≡ (Ok y, v) → Bound step next w y v
+pub bound : {E X Y : Type 0} (step : Turn E X) (next : X → Turn E Y) (w : World) (y : Y) (v : World) → (step >>= next) w ≡ (Ok y, v)
+    → Bound step next w y v
 bound {E} {X} {Y} step next w y v e = at (step w) refl e
   where
     at : (s : Result X E × World) → step w ≡ s → go_on s next ≡ (Ok y, v) → Bound step next w y v
@@ -64,12 +65,14 @@ pub was_put : (path bytes : Text) (w v : World) → put_in path bytes w ≡ (Ok 
 unfolding put_in
 was_put path bytes w v e = at (is_blocked w path) e
   where
-    at : (b : Bool) → cond {A = Result (Unit {0}) Lack × World} b (Err (Way path), w) (Ok tt, map.insert w path bytes) ≡ (Ok tt, v) → v ≡ map.insert w path bytes
+    at : (b : Bool) → cond {A = Result (Unit {0}) Lack × World} b (Err (Way path), w) (Ok tt, map.insert w path bytes) ≡ (Ok tt, v)
+        → v ≡ map.insert w path bytes
     at true e = let never = same_answer e in absurd cc
     at false e = sym (same_world e)
 
 pub put_here : (w : World) (path bytes : Text) → map.get (map.insert w path bytes) path ≡ Some bytes
-put_here w path bytes = get-insert nat_list_cmp_total w path bytes path ∙ ap (λ (b : Bool). cond b (Some bytes) (map.get w path)) (equal_to_itself path)
+put_here w path bytes =
+    get-insert nat_list_cmp_total w path bytes path ∙ ap (λ (b : Bool). cond b (Some bytes) (map.get w path)) (equal_to_itself path)
 
 pub put_there : (w : World) (path bytes q : Text) → q ≢ path → map.get (map.insert w path bytes) q ≡ map.get w q
 put_there w path bytes q other =

@@ -26,14 +26,19 @@ use Rattle.pick_laws.proofs.Switching.{AreAway}
 -- ---- what was found
 
 -- where no file differs, none of the entries does
-pub each_unchanged : (w : World) (index : List IndexEntry) → IsInOrder index → changed w index ≡ None → AllByRecursion (λ e. is_changed w e ≡ false) index
+pub each_unchanged : (w : World) (index : List IndexEntry) → IsInOrder index → changed w index ≡ None
+    → AllByRecursion (λ e. is_changed w e ≡ false) index
 unfolding changed
 each_unchanged w [] order none = tt
 each_unchanged w (e ∷ es) order none = at (is_changed w e) refl (each_unchanged w es order.1)
   where
-    at : (b : Bool) → is_changed w e ≡ b → (least (map (λ d. d.path) (filter (is_changed w) es)) ≡ None → AllByRecursion (λ d. is_changed w d ≡ false) es) → AllByRecursion (λ d. is_changed w d ≡ false) (e ∷ es)
-    at true is others = absurd (let some = passes_at (is_changed w) (e ∷ es) (e ∷ es) e (rest_begins (is_changed w) (e ∷ es)) order (omega arith) refl is ∙ none in cc)
-    at false is others = (is, others (ap (λ (t : Bool). least (map (λ d. d.path) (cond t (e ∷ filter (is_changed w) es) (filter (is_changed w) es)))) (sym is) ∙ none))
+    at : (b : Bool) → is_changed w e ≡ b
+        → (least (map (λ d. d.path) (filter (is_changed w) es)) ≡ None → AllByRecursion (λ d. is_changed w d ≡ false) es)
+        → AllByRecursion (λ d. is_changed w d ≡ false) (e ∷ es)
+    at true is others =
+        absurd (let some = passes_at (is_changed w) (e ∷ es) (e ∷ es) e (rest_begins (is_changed w) (e ∷ es)) order (omega arith) refl is ∙ none in cc)
+    at false is others =
+        (is, others (ap (λ (t : Bool). least (map (λ d. d.path) (cond t (e ∷ filter (is_changed w) es) (filter (is_changed w) es)))) (sym is) ∙ none))
 
 pub not_false : (b : Bool) → not b ≡ false → b ≡ true
 not_false true e = refl
@@ -50,9 +55,11 @@ first_fails false b e on = refl
 
 -- an entry that is no submodule has its blob in its file
 has_its_blob : (w : World) (d : IndexEntry) → is_changed w d ≡ false → is_gitlink d.mode ≡ false → has_blob (held.get w d.path) d.id ≡ true
-has_its_blob w d clean file = not_false (has_blob (held.get w d.path) d.id) (second_fails (not (is_gitlink d.mode)) (not (has_blob (held.get w d.path) d.id)) clean (ap not file))
+has_its_blob w d clean file =
+    not_false (has_blob (held.get w d.path) d.id) (second_fails (not (is_gitlink d.mode)) (not (has_blob (held.get w d.path) d.id)) clean (ap not file))
 
-found_blob : (w : World) (index : List IndexEntry) (path : Path) (entry : Entry) → AllByRecursion (λ d. is_changed w d ≡ false) index → entry_at (map_of index) path ≡ Some entry → is_gitlink entry.mode ≡ false → has_blob (held.get w path) entry.id ≡ true
+found_blob : (w : World) (index : List IndexEntry) (path : Path) (entry : Entry) → AllByRecursion (λ d. is_changed w d ≡ false) index
+    → entry_at (map_of index) path ≡ Some entry → is_gitlink entry.mode ≡ false → has_blob (held.get w path) entry.id ≡ true
 found_blob w [] path entry clean is file = absurd cc
 found_blob w (d ∷ ds) path entry clean is file = at (is_merged d) (λ more. found_blob w ds path entry clean.1 more file) is
   where
@@ -64,7 +71,9 @@ found_blob w (d ∷ ds) path entry clean is file = at (is_merged d) (λ more. fo
         ap (λ (p : Path). has_blob (held.get w p) entry.id) (sym ((bytes_eq-Decides d.path path).0 same)) ∙ ap (λ (x : Entry). has_blob (held.get w d.path) x.id) (sym one) ∙ its
     here false other others is = others is
 
-    at : (b : Bool) → (entry_at (map_of ds) path ≡ Some entry → has_blob (held.get w path) entry.id ≡ true) → entry_at (map row_of (cond b (d ∷ filter is_merged ds) (filter is_merged ds))) path ≡ Some entry → has_blob (held.get w path) entry.id ≡ true
+    at : (b : Bool) → (entry_at (map_of ds) path ≡ Some entry → has_blob (held.get w path) entry.id ≡ true)
+        → entry_at (map row_of (cond b (d ∷ filter is_merged ds) (filter is_merged ds))) path ≡ Some entry
+        → has_blob (held.get w path) entry.id ≡ true
     at true others is = here (bytes_eq d.path path) refl others is
     at false others is = others is
 
@@ -78,7 +87,8 @@ gitlink_number Gitlink = refl
 gitlink_number Folder = refl
 
 -- a path that the index has alike has its blob
-pub kept_blob : (w : World) (index : List IndexEntry) (e : Path × Entry) → AllByRecursion (λ d. is_changed w d ≡ false) index → is_kept index e ≡ true → is_gitlink e.1.mode ≡ false → has_blob (held.get w e.0) e.1.id ≡ true
+pub kept_blob : (w : World) (index : List IndexEntry) (e : Path × Entry) → AllByRecursion (λ d. is_changed w d ≡ false) index → is_kept index e ≡ true
+    → is_gitlink e.1.mode ≡ false → has_blob (held.get w e.0) e.1.id ≡ true
 kept_blob w index e clean kept file = at (entry_at (map_of index) e.0) refl kept
   where
     at : (o : Option Entry) → entry_at (map_of index) e.0 ≡ o → same_entry o (Some e.1) ≡ true → has_blob (held.get w e.0) e.1.id ≡ true
@@ -101,16 +111,20 @@ all_there (d ∷ ds) = (first, later ds (all_there ds))
     one true q there = refl
     one false q there = there
 
-    later : (rows : Entries) → AllByRecursion (λ e. is_none (entry_at ds e.0) ≡ false) rows → AllByRecursion (λ e. is_none (entry_at (d ∷ ds) e.0) ≡ false) rows
+    later : (rows : Entries) → AllByRecursion (λ e. is_none (entry_at ds e.0) ≡ false) rows
+        → AllByRecursion (λ e. is_none (entry_at (d ∷ ds) e.0) ≡ false) rows
     later [] there = tt
     later (r ∷ rows) there = (one (bytes_eq d.0 r.0) r.0 there.0, later rows there.1)
 
-pub not_removed : (q : Path) (from : List IndexEntry) (m : Entries) (index : List IndexEntry) → is_none (entry_at m q) ≡ false → AreAway q (removals_of from m index)
+pub not_removed : (q : Path) (from : List IndexEntry) (m : Entries) (index : List IndexEntry) → is_none (entry_at m q) ≡ false
+    → AreAway q (removals_of from m index)
 not_removed q from m [] there = tt
 not_removed q from m (d ∷ ds) there = at (is_dropped from m d) refl (not_removed q from m ds there)
   where
-    at : (b : Bool) → is_dropped from m d ≡ b → AreAway q (removals_of from m ds) → AreAway q (map (λ e. Remove e.path) (cond b (d ∷ filter (is_dropped from m) ds) (filter (is_dropped from m) ds)))
-    at true is others = (λ same. both_ways (is_none (entry_at m q)) there (ap (λ (p : Path). is_none (entry_at m p)) same ∙ (and_parts (is_none (entry_at m d.path)) (not (is_submodule_at from d.path)) is).0), others)
+    at : (b : Bool) → is_dropped from m d ≡ b → AreAway q (removals_of from m ds)
+        → AreAway q (map (λ e. Remove e.path) (cond b (d ∷ filter (is_dropped from m) ds) (filter (is_dropped from m) ds)))
+    at true is others =
+        (λ same. both_ways (is_none (entry_at m q)) there (ap (λ (p : Path). is_none (entry_at m p)) same ∙ (and_parts (is_none (entry_at m d.path)) (not (is_submodule_at from d.path)) is).0), others)
     at false is others = others
 
 -- ---- all entries

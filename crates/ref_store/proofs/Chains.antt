@@ -15,7 +15,8 @@ pub no_more : (left : ℕ) (w : World) (from name : Name) → left ≡ 0 → end
 no_more zero w from name e = unfold end_within in refl
 no_more (suc n) w from name e = absurd (omega (arith, e))
 
-pub one_more : (left : ℕ) (w : World) (from name : Name) → left ≢ 0 → end_within left w from name ≡ followed (end_within (left - 1) w name) name (map.get w (ref_path name))
+pub one_more : (left : ℕ) (w : World) (from name : Name) → left ≢ 0
+    → end_within left w from name ≡ followed (end_within (left - 1) w name) name (map.get w (ref_path name))
 one_more zero w from name ne = absurd (ne refl)
 one_more (suc n) w from name ne = unfold end_within in ap (λ (k : ℕ). followed (end_within k w name) name (map.get w (ref_path name))) (omega arith)
 
@@ -40,16 +41,19 @@ value_within n w from name = end_within n w from name >>= settled w
 pub ended : (w : World) (from name : Name) → value_within zero w from name ≡ Err (BadRef from)
 ended w from name = unfold end_within in refl
 
-settled_on : (w : World) (on : Name → Result Head RefFault) (r : Result Head RefFault) → ((r >>= goes_on on) >>= settled w) ≡ (r >>= led (λ other. on other >>= settled w))
+settled_on : (w : World) (on : Name → Result Head RefFault) (r : Result Head RefFault)
+    → ((r >>= goes_on on) >>= settled w) ≡ (r >>= led (λ other. on other >>= settled w))
 settled_on w on (Ok (Detached id)) = unfold settled in refl
 settled_on w on (Ok (Branch other)) = refl
 settled_on w on (Err why) = refl
 
-followed_is : (w : World) (on : Name → Result Head RefFault) (name : Name) (o : Option Text) → (followed on name o >>= settled w) ≡ decided w (λ other. on other >>= settled w) name o
+followed_is : (w : World) (on : Name → Result Head RefFault) (name : Name) (o : Option Text)
+    → (followed on name o >>= settled w) ≡ decided w (λ other. on other >>= settled w) name o
 followed_is w on name (Some text) = settled_on w on (file_head name text)
 followed_is w on name None = unfold settled in refl
 
-pub opened : (n : ℕ) (w : World) (from name : Name) → value_within (suc n) w from name ≡ decided w (value_within n w name) name (map.get w (ref_path name))
+pub opened : (n : ℕ) (w : World) (from name : Name)
+    → value_within (suc n) w from name ≡ decided w (value_within n w name) name (map.get w (ref_path name))
 opened n w from name =
     ap (λ (r : Result Head RefFault). r >>= settled w) (one_more (suc n) w from name (λ e. absurd cc) ∙ ap (λ (k : ℕ). followed (end_within k w name) name (map.get w (ref_path name))) (omega arith))
     ∙ followed_is w (end_within n w name) name (map.get w (ref_path name))

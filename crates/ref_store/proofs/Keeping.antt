@@ -34,21 +34,26 @@ pub record IsSame (w after : World) (name : List ℕ) : Type 0 where
   pub packed : packed_value_at after name ≡ packed_value_at w name
 
 -- where it leads on, the name behind has the same value
-led_kept : (on then_on : List ℕ → Value) (o : Option Head) (why : RefFault) → ((other : List ℕ) → o ≡ Some (Branch other) → then_on other ≡ on other) → (or_stop o why >>= led then_on) ≡ (or_stop o why >>= led on)
+led_kept : (on then_on : List ℕ → Value) (o : Option Head) (why : RefFault) → ((other : List ℕ) → o ≡ Some (Branch other) → then_on other ≡ on other)
+    → (or_stop o why >>= led then_on) ≡ (or_stop o why >>= led on)
 led_kept on then_on (Some (Detached id)) why each = refl
 led_kept on then_on (Some (Branch other)) why each = each other refl
 led_kept on then_on None why each = refl
 
-decided_kept : (w after : World) (on then_on : List ℕ → Value) (name : List ℕ) (o : Option (List ℕ)) → packed_value_at after name ≡ packed_value_at w name
+decided_kept : (w after : World) (on then_on : List ℕ → Value) (name : List ℕ) (o : Option (List ℕ))
+    → packed_value_at after name ≡ packed_value_at w name
     → ((text : List ℕ) (other : List ℕ) → o ≡ Some text → file_of name text ≡ Some (Branch other) → then_on other ≡ on other) → decided after then_on name o ≡ decided w on name o
-decided_kept w after on then_on name (Some text) packed each = unfold file_head in led_kept on then_on (file_of name text) (BadRef name) (λ other is. each text other refl is)
+decided_kept w after on then_on name (Some text) packed each =
+    unfold file_head in led_kept on then_on (file_of name text) (BadRef name) (λ other is. each text other refl is)
 decided_kept w after on then_on name None packed each = packed
 
 -- the chain behind a file that leads on
-chain_behind : (on : List ℕ → List (List ℕ)) (name text other : List ℕ) (o : Option (List ℕ)) → o ≡ Some text → file_of name text ≡ Some (Branch other) → behind_file on name o ≡ on other
+chain_behind : (on : List ℕ → List (List ℕ)) (name text other : List ℕ) (o : Option (List ℕ)) → o ≡ Some text
+    → file_of name text ≡ Some (Branch other) → behind_file on name o ≡ on other
 chain_behind on name text other o is leads = ap (behind_file on name) is ∙ ap (behind on) leads
 
-pub kept : (n : ℕ) (w after : World) (name from other : List ℕ) → ((m : List ℕ) → IsRefName m → bytes_eq m name ≡ false → IsSame w after m) → IsRefName other → list_any (λ m. bytes_eq m name) (chain_of n w other) ≡ false
+pub kept : (n : ℕ) (w after : World) (name from other : List ℕ) → ((m : List ℕ) → IsRefName m → bytes_eq m name ≡ false → IsSame w after m)
+    → IsRefName other → list_any (λ m. bytes_eq m name) (chain_of n w other) ≡ false
     → value_within n after from other ≡ value_within n w from other
 kept zero w after name from other same is off = ended after from other ∙ sym (ended w from other)
 kept (suc n) w after name from other same is off =
@@ -61,7 +66,9 @@ kept (suc n) w after name from other same is off =
     ∙ sym (opened n w from other)
 
 -- HEAD
-head_kept_at : (w after : World) (name : List ℕ) (r : Result Head RefFault) → head_at w ≡ r → ((other : List ℕ) → r ≡ Ok (Branch other) → value_within 5 after head_name other ≡ value_within 5 w head_name other) → (r >>= led (value_within 5 after head_name)) ≡ (r >>= led (value_within 5 w head_name))
+head_kept_at : (w after : World) (name : List ℕ) (r : Result Head RefFault) → head_at w ≡ r
+    → ((other : List ℕ) → r ≡ Ok (Branch other) → value_within 5 after head_name other ≡ value_within 5 w head_name other)
+    → (r >>= led (value_within 5 after head_name)) ≡ (r >>= led (value_within 5 w head_name))
 head_kept_at w after name (Ok (Detached id)) is each = refl
 head_kept_at w after name (Ok (Branch other)) is each = each other refl
 head_kept_at w after name (Err why) is each = refl
@@ -81,7 +88,8 @@ head_same w after e = unfold head_at in ap head_file e
 pub head_opened : (w : World) (h : Head) → head_at w ≡ Ok h → head_file (map.get w (ref_path head_name)) ≡ Ok h
 head_opened w h e = unfold head_at in e
 
-head_kept : (w after : World) (name : List ℕ) → ((m : List ℕ) → IsRefName m → bytes_eq m name ≡ false → IsSame w after m) → leads_through w head_name name ≡ false → head_value after ≡ head_value w
+head_kept : (w after : World) (name : List ℕ) → ((m : List ℕ) → IsRefName m → bytes_eq m name ≡ false → IsSame w after m)
+    → leads_through w head_name name ≡ false → head_value after ≡ head_value w
 head_kept w after name same off =
     let both = or_parts (bytes_eq head_name name) (list_any (λ m. bytes_eq m name) (behind_file (chain_of 5 w) head_name (map.get w (ref_path head_name)))) off in
     let here = same head_name refl both.0 in
@@ -101,7 +109,8 @@ pub at_other : (w : World) (name : List ℕ) → bytes_eq name head_name ≡ fal
 at_other w name is = unfold value_at in unfold end_at in rw is refl
 
 -- a name keeps its value where no file through which it leads is changed
-pub all_kept : (w after : World) (name other : List ℕ) → ((m : List ℕ) → IsRefName m → bytes_eq m name ≡ false → IsSame w after m) → IsRefName other → leads_through w other name ≡ false → value_at after other ≡ value_at w other
+pub all_kept : (w after : World) (name other : List ℕ) → ((m : List ℕ) → IsRefName m → bytes_eq m name ≡ false → IsSame w after m) → IsRefName other
+    → leads_through w other name ≡ false → value_at after other ≡ value_at w other
 all_kept w after name other same is off = elim (cases_Bool (bytes_eq other head_name)) [
   | inl head ↦
       at_head after other head
@@ -115,13 +124,16 @@ all_kept w after name other same is off = elim (cases_Bool (bytes_eq other head_
 packed_at_same : (w after : World) → map.get after packed_path ≡ map.get w packed_path → packed_at after ≡ packed_at w
 packed_at_same w after e = unfold packed_at in ap (λ (o : Option (List ℕ)). or_bad BadPacked (packed_of (unwrap_or o []))) e
 
-packed_same : (w after : World) (name : List ℕ) → map.get after packed_path ≡ map.get w packed_path → packed_value_at after name ≡ packed_value_at w name
-packed_same w after name e = unfold packed_value_at in ap (λ (r : Result (List Ref) RefFault). r >>= λ refs. Ok (packed_value refs name)) (packed_at_same w after e)
+packed_same : (w after : World) (name : List ℕ) → map.get after packed_path ≡ map.get w packed_path
+    → packed_value_at after name ≡ packed_value_at w name
+packed_same w after name e =
+    unfold packed_value_at in ap (λ (r : Result (List Ref) RefFault). r >>= λ refs. Ok (packed_value refs name)) (packed_at_same w after e)
 
 other_path : (name m : List ℕ) → bytes_eq m name ≡ false → ref_path m ≢ ref_path name
 other_path name m ne e = both_ways (bytes_eq m name) ne ((bytes_eq-Decides m name).1 (ap (drop 5) e))
 
-pub same_set : (w : World) (name id m : List ℕ) (line : LogLine) → IsRefName name → IsRefName m → bytes_eq m name ≡ false → IsSame w (set_ref w name id line) m
+pub same_set : (w : World) (name id m : List ℕ) (line : LogLine) → IsRefName name → IsRefName m → bytes_eq m name ≡ false
+    → IsSame w (set_ref w name id line) m
 same_set w name id m line is told ne = record {
   file = set_there w name id (ref_path m) line (other_path name m ne) (ref_no_log m name told);
   packed = packed_same w (set_ref w name id line) m (set_there w name id packed_path line (ref_no_packed name is) (log_no_packed name));
@@ -139,8 +151,11 @@ same_then u w after m one two = record { file = two.file ∙ one.file; packed = 
 kept_packed : (w : World) (name : List ℕ) (refs : List Ref) → PackedAt w refs → packed_value_at w name ≡ Ok (packed_value refs name)
 kept_packed w name refs is = unfold packed_value_at in rw (packed_at_from w refs is) refl
 
-pub same_delete : (w : World) (name m : List ℕ) (refs : List Ref) → IsRefName name → PackedAt w refs → IsRefName m → bytes_eq m name ≡ false → IsSame w (delete_ref w refs name) m
+pub same_delete : (w : World) (name m : List ℕ) (refs : List Ref) → IsRefName name → PackedAt w refs → IsRefName m → bytes_eq m name ≡ false
+    → IsSame w (delete_ref w refs name) m
 same_delete w name m refs is packed told ne = record {
   file = delete_there w name (ref_path m) refs (other_path name m ne) (λ e. ref_no_packed m told (sym e));
-  packed = kept_packed (delete_ref w refs name) m (without name refs) (delete_packed w name refs is packed) ∙ ap Ok (value_kept name m refs ne) ∙ sym (kept_packed w m refs packed);
+  packed =
+      kept_packed (delete_ref w refs name) m (without name refs) (delete_packed w name refs is packed) ∙ ap Ok (value_kept name m refs ne)
+      ∙ sym (kept_packed w m refs packed);
 }

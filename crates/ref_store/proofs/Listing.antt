@@ -7,7 +7,8 @@ use Rattle.seq_base.specs.RefNames.{IsRefName}
 use Rattle.ref_store.specs.Lists.{is_named}
 
 -- one more is kept, or none
-pub one_more_kept : (names : List (List ℕ)) (name : List ℕ) (rest : List (List ℕ)) → (names ++ filter is_named (name ∷ [])) ++ filter is_named rest ≡ names ++ filter is_named (name ∷ rest)
+pub one_more_kept : (names : List (List ℕ)) (name : List ℕ) (rest : List (List ℕ))
+    → (names ++ filter is_named (name ∷ [])) ++ filter is_named rest ≡ names ++ filter is_named (name ∷ rest)
 one_more_kept names name rest = at (is_named name)
   where
     at : (b : Bool) → (names ++ cond b (name ∷ []) []) ++ filter is_named rest ≡ names ++ cond b (name ∷ filter is_named rest) (filter is_named rest)
@@ -23,11 +24,13 @@ pub kept_are_names : (names : List (List ℕ)) → AllByRecursion IsRefName (fil
 kept_are_names [] = tt
 kept_are_names (name ∷ names) = at (kept_are_names names) (is_named name) refl
   where
-    at : AllByRecursion IsRefName (filter is_named names) → (b : Bool) → is_named name ≡ b → AllByRecursion IsRefName (cond b (name ∷ filter is_named names) (filter is_named names))
+    at : AllByRecursion IsRefName (filter is_named names) → (b : Bool) → is_named name ≡ b
+        → AllByRecursion IsRefName (cond b (name ∷ filter is_named names) (filter is_named names))
     at others true is = (named name is, others)
     at others false is = others
 
 -- where none is left, all were kept
-pub all_were_kept : (names rest paths : List (List ℕ)) → length rest ≡ 0 → names ++ filter is_named (map (drop 5) rest) ≡ filter is_named (map (drop 5) paths) → AllByRecursion IsRefName names
+pub all_were_kept : (names rest paths : List (List ℕ)) → length rest ≡ 0
+    → names ++ filter is_named (map (drop 5) rest) ≡ filter is_named (map (drop 5) paths) → AllByRecursion IsRefName names
 all_were_kept names [] paths none e = subst (AllByRecursion IsRefName) (sym (sym (append-nil names) ∙ e)) (kept_are_names (map (drop 5) paths))
 all_were_kept names (path ∷ rest) paths none e = absurd (omega (arith, none))

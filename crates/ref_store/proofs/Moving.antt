@@ -42,24 +42,28 @@ apart name other h = elim (begins name h) [
 pub put_free : (w : World) (path bytes : List ℕ) → is_blocked w path ≡ false → put_in path bytes w ≡ (Ok tt, map.insert w path bytes)
 put_free w path bytes free = unfold put_in in rw free refl
 
-pub line_free : (w : World) (name : List ℕ) (line : LogLine) → is_blocked w (log_path name) ≡ false → line_added name line w ≡ (Ok tt, logged w name line)
+pub line_free : (w : World) (name : List ℕ) (line : LogLine) → is_blocked w (log_path name) ≡ false
+    → line_added name line w ≡ (Ok tt, logged w name line)
 line_free w name line free = unfold line_added in at (unwrap_or (map.get w (log_path name)) [] ++ log_text line) (has_log name)
   where
     at : (text : List ℕ) (b : Bool) → cond b (put_in (log_path name) text w) (gives tt w) ≡ (Ok tt, cond b (map.insert w (log_path name) text) w)
     at text true = put_free w (log_path name) text free
     at text false = refl
 
-pub log_free : (w : World) (name other bytes : List ℕ) → IsRefName name → is_blocked w (log_path other) ≡ false → is_blocked (map.insert w (ref_path name) bytes) (log_path other) ≡ false
+pub log_free : (w : World) (name other bytes : List ℕ) → IsRefName name → is_blocked w (log_path other) ≡ false
+    → is_blocked (map.insert w (ref_path name) bytes) (log_path other) ≡ false
 log_free w name other bytes h free = let a = apart name other h in still_free w (ref_path name) bytes (log_path other) free a.below_ref a.above_ref
 
-head_free : (w : World) (name : List ℕ) (line : LogLine) → IsRefName name → is_blocked w (log_path head_name) ≡ false → is_blocked (logged w name line) (log_path head_name) ≡ false
+head_free : (w : World) (name : List ℕ) (line : LogLine) → IsRefName name → is_blocked w (log_path head_name) ≡ false
+    → is_blocked (logged w name line) (log_path head_name) ≡ false
 head_free w name line h free = at (unwrap_or (map.get w (log_path name)) [] ++ log_text line) (has_log name)
   where
     at : (text : List ℕ) (b : Bool) → is_blocked (cond b (map.insert w (log_path name) text) w) (log_path head_name) ≡ false
     at text true = let a = apart name head_name h in still_free w (log_path name) text (log_path head_name) free a.below_log a.above_log
     at text false = free
 
-branch_as_head : (w : World) (branch id : List ℕ) (line : LogLine) → IsRefName branch → IsWritable w branch → is_blocked w (log_path head_name) ≡ false → branch_moved branch id line w ≡ (Ok tt, move_head w (Branch branch) id line)
+branch_as_head : (w : World) (branch id : List ℕ) (line : LogLine) → IsRefName branch → IsWritable w branch
+    → is_blocked w (log_path head_name) ≡ false → branch_moved branch id line w ≡ (Ok tt, move_head w (Branch branch) id line)
 branch_as_head w branch id line name writable head =
     let text = head_text (Detached id) in
     let one = map.insert w (ref_path branch) text in
@@ -69,7 +73,8 @@ branch_as_head w branch id line name writable head =
     let third = line_free two head_name line (head_free one branch line name (log_free w branch head_name text name head)) in
     unfold branch_moved in unfold ref_set in unfold lines_added in unfold head_logged in rw (first, second) third
 
-detached_as_head : (w : World) (old id : List ℕ) (line : LogLine) → IsWritable w head_name → detached_moved id line w ≡ (Ok tt, move_head w (Detached old) id line)
+detached_as_head : (w : World) (old id : List ℕ) (line : LogLine) → IsWritable w head_name
+    → detached_moved id line w ≡ (Ok tt, move_head w (Detached old) id line)
 unfolding detached_moved ref_set head_logged
 detached_as_head w old id line writable =
     let text = head_text (Detached id) in
@@ -78,7 +83,8 @@ detached_as_head w old id line writable =
     let second = line_free one head_name line (log_free w head_name head_name text refl writable.log) in
     ap (λ (r : Result (Unit {0}) Lack × World). go_on r (λ _. line_added head_name line)) first ∙ second
 
-pub moved_as_head : (w : World) (head : Head) (id : List ℕ) (line : LogLine) → IsHeadValue head → IsWritable w (moved_name head) → is_blocked w (log_path head_name) ≡ false → head_moved head id line w ≡ (Ok tt, move_head w head id line)
+pub moved_as_head : (w : World) (head : Head) (id : List ℕ) (line : LogLine) → IsHeadValue head → IsWritable w (moved_name head)
+    → is_blocked w (log_path head_name) ≡ false → head_moved head id line w ≡ (Ok tt, move_head w head id line)
 moved_as_head w (Branch name) id line is writable free = unfold head_moved in branch_as_head w name id line is writable free
 moved_as_head w (Detached old) id line is writable free = unfold head_moved in detached_as_head w old id line writable
 
@@ -109,7 +115,8 @@ line_leaves w name line = unfold line_added in at (unwrap_or (map.get w (log_pat
     at text true = put_leaves w (log_path name) text
     at text false = refl
 
-one_more : (r : Result (Unit {0}) Lack × World) (next : Turn Lack (Unit {0})) (mid aim : World) → LeavesIfOk r mid → LeavesIfOk (next mid) aim → LeavesIfOk (go_on r (λ _. next)) aim
+one_more : (r : Result (Unit {0}) Lack × World) (next : Turn Lack (Unit {0})) (mid aim : World) → LeavesIfOk r mid → LeavesIfOk (next mid) aim
+    → LeavesIfOk (go_on r (λ _. next)) aim
 one_more (Ok done, left) next mid aim is later = subst (λ (v : World). LeavesIfOk (next v) aim) (sym is) later
 one_more (Err why, left) next mid aim is later = tt
 

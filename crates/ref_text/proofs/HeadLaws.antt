@@ -34,7 +34,8 @@ spelled : (text id : List ℕ) (r : Result (List ℕ) FromHexError) → ok_of r 
 spelled text id (Ok bytes) is = ap Ok (some_inj is)
 spelled text id (Err e) is = absurd cc
 
-id_to_at : (forty : Bool) (text id : List ℕ) → (forty ≡ true → length text ≡ 40) → cond forty (ok_of (decode_of text)) None ≡ Some id → SpellsId id text
+id_to_at : (forty : Bool) (text id : List ℕ) → (forty ≡ true → length text ≡ 40) → cond forty (ok_of (decode_of text)) None ≡ Some id
+    → SpellsId id text
 id_to_at true text id is h = record { forty = is refl; bytes = spelled text id (decode_of text) h }
 id_to_at false text id is h = absurd cc
 
@@ -59,14 +60,17 @@ same_line a b e =
 
 -- ---- a line
 
-branch_to : (line : List ℕ) (h : Head) → starts_with nat_eq line (codes "ref: ") ≡ true → is_ref_name (drop 5 line) ≡ true → Branch (drop 5 line) ≡ h → SpellsHead h (line ++ 10 ∷ [])
-branch_to line h begins is e = subst (λ (x : Head). SpellsHead x (line ++ 10 ∷ [])) e (is, ap (λ (l : List ℕ). l ++ 10 ∷ []) (behind_front (codes "ref: ") line begins))
+branch_to : (line : List ℕ) (h : Head) → starts_with nat_eq line (codes "ref: ") ≡ true → is_ref_name (drop 5 line) ≡ true → Branch (drop 5 line) ≡ h
+    → SpellsHead h (line ++ 10 ∷ [])
+branch_to line h begins is e =
+    subst (λ (x : Head). SpellsHead x (line ++ 10 ∷ [])) e (is, ap (λ (l : List ℕ). l ++ 10 ∷ []) (behind_front (codes "ref: ") line begins))
 
 digits_to : (line : List ℕ) (h : Head) (o : Option (List ℕ)) → id_in line ≡ o → option_map Detached o ≡ Some h → SpellsHead h (line ++ 10 ∷ [])
 digits_to line h (Some id) is e = subst (λ (x : Head). SpellsHead x (line ++ 10 ∷ [])) (some_inj e) (line, id_to line id is, refl)
 digits_to line h None is e = absurd cc
 
-line_to_at : (begins named : Bool) (line : List ℕ) (h : Head) → starts_with nat_eq line (codes "ref: ") ≡ begins → is_ref_name (drop 5 line) ≡ named → head_on line (cond (begins && named) (Some (drop 5 line)) None) ≡ Some h → SpellsHead h (line ++ 10 ∷ [])
+line_to_at : (begins named : Bool) (line : List ℕ) (h : Head) → starts_with nat_eq line (codes "ref: ") ≡ begins → is_ref_name (drop 5 line) ≡ named
+    → head_on line (cond (begins && named) (Some (drop 5 line)) None) ≡ Some h → SpellsHead h (line ++ 10 ∷ [])
 line_to_at true true line h begins named e = branch_to line h begins named (some_inj e)
 line_to_at true false line h begins named e = digits_to line h (id_in line) refl e
 line_to_at false named line h begins is e = digits_to line h (id_in line) refl e
@@ -89,7 +93,8 @@ branch_from : (line name : List ℕ) → IsRefName name → line ≡ codes "ref:
 branch_from line name is e = rw e (unfold head_in in rw is refl)
 
 digits_from : (line id : List ℕ) → SpellsId id line → head_in line ≡ Some (Detached id)
-digits_from line id h = unfold head_in in rw (subst (λ (l : List ℕ). starts_with nat_eq l (codes "ref: ") ≡ false) (append-nil line) (no_front id line [] h), id_from line id h) refl
+digits_from line id h =
+    unfold head_in in rw (subst (λ (l : List ℕ). starts_with nat_eq l (codes "ref: ") ≡ false) (append-nil line) (no_front id line [] h), id_from line id h) refl
 
 -- what a line spells it says
 pub line_from : (line : List ℕ) (h : Head) → SpellsHead h (line ++ 10 ∷ []) → head_in line ≡ Some h

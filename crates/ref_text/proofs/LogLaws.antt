@@ -47,8 +47,10 @@ old_spells x h = at (bytes_eq x zeros) refl
     at false e = (digits_spell x h, λ is. both_ways (bytes_eq x zeros) e ((bytes_eq-Decides x zeros).1 is))
 
 spelled_old : (o : Option (List ℕ)) (x : List ℕ) → SpellsOld o x → AreDigits x × (old_of x ≡ o)
-spelled_old None x h = (subst AreDigits (sym h) (record { forty = refl; hex = refl }), cond-true (bytes_eq x zeros) None (Some (id_of x)) ((bytes_eq-Decides x zeros).1 h))
-spelled_old (Some id) x h = (spelled_digits id x h.0, cond-false (bytes_eq x zeros) None (Some (id_of x)) (false_from_ne_true (bytes_eq x zeros) (λ is. h.1 ((bytes_eq-Decides x zeros).0 is))) ∙ ap (λ (i : List ℕ). Some i) (spelled_id id x h.0))
+spelled_old None x h =
+    (subst AreDigits (sym h) (record { forty = refl; hex = refl }), cond-true (bytes_eq x zeros) None (Some (id_of x)) ((bytes_eq-Decides x zeros).1 h))
+spelled_old (Some id) x h =
+    (spelled_digits id x h.0, cond-false (bytes_eq x zeros) None (Some (id_of x)) (false_from_ne_true (bytes_eq x zeros) (λ is. h.1 ((bytes_eq-Decides x zeros).0 is))) ∙ ap (λ (i : List ℕ). Some i) (spelled_id id x h.0))
 
 -- digits, and the SP behind them
 abbrev pub Digits : List ℕ → List ℕ → Type 0
@@ -82,7 +84,8 @@ digits_reads = reads_same (Then (Passing is_hex_digit 40) AtSpace) Digits digits
     (λ x text g. space_has x))
 
 pub digits_have : HasText Digits
-digits_have = let h = has_then (Passing is_hex_digit 40) AtSpace (passing_has is_hex_digit 48 (omega arith) refl 40) space_has in (h.0, h.1, h.2, digits_to h.0 h.1 h.3)
+digits_have =
+    let h = has_then (Passing is_hex_digit 40) AtSpace (passing_has is_hex_digit 48 (omega arith) refl 40) space_has in (h.0, h.1, h.2, digits_to h.0 h.1 h.3)
 
 -- ---- who
 
@@ -113,7 +116,8 @@ who_reads = reads_same (Then (TextOf IsIdent) AtTab) Who who_from who_to
     (λ x text g. has_then (Literal (9 ∷ [])) (λ _. Nothing x) (literal_has (9 ∷ []) (one_byte 9 (omega arith))) (λ _. nothing_has x)))
 
 who_has : HasText Who
-who_has = let h = has_then (TextOf IsIdent) AtTab (text_has IsIdent ident_has) (λ x. has_then (Literal (9 ∷ [])) (λ _. Nothing x) (literal_has (9 ∷ []) (one_byte 9 (omega arith))) (λ _. nothing_has x)) in (h.0, h.1, h.2, who_to h.0 h.1 h.3)
+who_has =
+    let h = has_then (TextOf IsIdent) AtTab (text_has IsIdent ident_has) (λ x. has_then (Literal (9 ∷ [])) (λ _. Nothing x) (literal_has (9 ∷ []) (one_byte 9 (omega arith))) (λ _. nothing_has x)) in (h.0, h.1, h.2, who_to h.0 h.1 h.3)
 
 -- ---- a line
 
@@ -130,7 +134,8 @@ abbrev Line : LogLine → List ℕ → Type 0
 Line = Then Digits (λ old. AtNew old)
 
 message_has : (old new ident : List ℕ) → HasText (AtMessage old new ident)
-message_has old new ident = has_then (Run in_line 10) (λ message. Nothing (made old new ident message)) (run_has in_line 10 (omega arith)) (λ message. nothing_has (made old new ident message))
+message_has old new ident =
+    has_then (Run in_line 10) (λ message. Nothing (made old new ident message)) (run_has in_line 10 (omega arith)) (λ message. nothing_has (made old new ident message))
 
 whos_have : (old new : List ℕ) → HasText (AtWho old new)
 whos_have old new = has_then Who (λ ident. AtMessage old new ident) who_has (message_has old new)
@@ -147,12 +152,15 @@ messages_read old new ident =
     (run_reads in_line 10 (omega arith) refl) (λ message t g. nothing_reads (made old new ident message)) (λ message t g. nothing_has (made old new ident message))
 
 whos_read : (old new : List ℕ) → Reads (AtWho old new) (then_at who_from (λ ident. message_at old new ident))
-whos_read old new = then_reads Who (λ ident. AtMessage old new ident) who_from (λ ident. message_at old new ident) who_reads (λ ident t g. messages_read old new ident) (λ ident t g. message_has old new ident)
+whos_read old new =
+    then_reads Who (λ ident. AtMessage old new ident) who_from (λ ident. message_at old new ident) who_reads (λ ident t g. messages_read old new ident) (λ ident t g. message_has old new ident)
 
 news_read : (old : List ℕ) → Reads (AtNew old) (then_at digits_from (λ new. then_at who_from (λ ident. message_at old new ident)))
-news_read old = then_reads Digits (λ new. AtWho old new) digits_from (λ new. then_at who_from (λ ident. message_at old new ident)) digits_reads (λ new t g. whos_read old new) (λ new t g. whos_have old new)
+news_read old =
+    then_reads Digits (λ new. AtWho old new) digits_from (λ new. then_at who_from (λ ident. message_at old new ident)) digits_reads (λ new t g. whos_read old new) (λ new t g. whos_have old new)
 
-regroup : (old new ident message : List ℕ) → (old ++ 32 ∷ []) ++ ((new ++ 32 ∷ []) ++ ((ident ++ 9 ∷ []) ++ ((message ++ 10 ∷ []) ++ []))) ≡ line_of_fields old new ident message
+regroup : (old new ident message : List ℕ)
+    → (old ++ 32 ∷ []) ++ ((new ++ 32 ∷ []) ++ ((ident ++ 9 ∷ []) ++ ((message ++ 10 ∷ []) ++ []))) ≡ line_of_fields old new ident message
 regroup old new ident message = simp (append_assoc, append-nil)
 
 line_to : (x : LogLine) (text : List ℕ) → Line x text → IsLogLine x text

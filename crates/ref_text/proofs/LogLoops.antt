@@ -22,7 +22,8 @@ use Rattle.ref_text.specs.Logs.{IsLog}
 use Rattle.ref_text.proofs.LogLaws.{Each, Good, is_star, log_reads}
 
 pub read_digits : (bytes x rest : List ℕ) → passing_at is_hex_digit 40 bytes ≡ Ok (x, rest) → AreDigits x
-read_digits bytes x rest e = let k = (passing_reads is_hex_digit 48 (omega arith) refl 40).takes bytes x rest e in record { forty = k.1.0; hex = k.1.1 }
+read_digits bytes x rest e =
+    let k = (passing_reads is_hex_digit 48 (omega arith) refl 40).takes bytes x rest e in record { forty = k.1.0; hex = k.1.1 }
 
 pub ident_within : (bytes : List ℕ) (ident : Ident) (rest : List ℕ) → ident_from bytes ≡ Ok (ident, rest) → length rest ≤ length bytes
 ident_within bytes ident rest e = let k = ident_reads.takes bytes ident rest e in omega (arith, ap length k.2, length-append k.0 rest)
@@ -32,24 +33,28 @@ total bytes = star_at any_byte kept (λ s. line_from) (λ s rest. end_at rest) (
 
 -- these lines are read, and that is left
 abbrev pub LogLoop : List ℕ → List LogLine → List ℕ → Type 0
-LogLoop bytes lines rest = Loop Good any_byte kept Each (λ s. End) (λ s. line_from) (λ s rest. end_at rest) is_star (star_at any_byte kept (λ s. line_from) (λ s rest. end_at rest) (length bytes) tt bytes) lines tt rest
+LogLoop bytes lines rest =
+    Loop Good any_byte kept Each (λ s. End) (λ s. line_from) (λ s rest. end_at rest) is_star (star_at any_byte kept (λ s. line_from) (λ s rest. end_at rest) (length bytes) tt bytes) lines tt rest
 
 pub begins_rest : (rest : List ℕ) → eqb (length rest) 0 ≡ false → begins any_byte rest ≡ true
 begins_rest [] some = absurd cc
 begins_rest (b ∷ rest) some = refl
 
-pub log_more : (bytes : List ℕ) (lines : List LogLine) (rest : List ℕ) (line : LogLine) (after : List ℕ) → eqb (length rest) 0 ≡ false → line_from rest ≡ Ok (line, after)
+pub log_more : (bytes : List ℕ) (lines : List LogLine) (rest : List ℕ) (line : LogLine) (after : List ℕ) → eqb (length rest) 0 ≡ false
+    → line_from rest ≡ Ok (line, after)
     → LogLoop bytes lines rest → LogLoop bytes (lines ++ line ∷ []) after × (length after < length rest)
 log_more bytes lines rest line after some read l =
     loop_more Good any_byte kept Each (λ s. End) (λ s. line_from) (λ s rest. end_at rest) is_star (total bytes) lines tt rest line after (begins_rest rest some) read l
 
-pub log_err : (bytes : List ℕ) (lines : List LogLine) (rest : List ℕ) (d : ReadError) → eqb (length rest) 0 ≡ false → Fails d (line_from rest) → LogLoop bytes lines rest → Fails d (log_from bytes)
+pub log_err : (bytes : List ℕ) (lines : List LogLine) (rest : List ℕ) (d : ReadError) → eqb (length rest) 0 ≡ false → Fails d (line_from rest)
+    → LogLoop bytes lines rest → Fails d (log_from bytes)
 unfolding log_from
 log_err bytes lines rest errors.Memory some read l = tt
 log_err bytes lines rest (errors.Stopped n) some read l =
     ap (λ (r : Result (List LogLine × Unit {0}) ℕ). r >>= λ p. Ok p.0) (loop_err Good any_byte kept Each (λ s. End) (λ s. line_from) (λ s rest. end_at rest) is_star (total bytes) lines tt rest (errors.Stopped n) (begins_rest rest some) read l)
 
-pub log_done : (bytes : List ℕ) (lines : List LogLine) (rest : List ℕ) → eqb (length rest) 0 ≡ true → LogLoop bytes lines rest → log_from bytes ≡ Ok lines
+pub log_done : (bytes : List ℕ) (lines : List LogLine) (rest : List ℕ) → eqb (length rest) 0 ≡ true → LogLoop bytes lines rest
+    → log_from bytes ≡ Ok lines
 unfolding log_from
 log_done bytes lines [] none l =
     ap (λ (r : Result (List LogLine × Unit {0}) ℕ). r >>= λ p. Ok p.0) (loop_last Good any_byte kept Each (λ s. End) (λ s. line_from) (λ s rest. end_at rest) is_star (total bytes) lines tt [] refl l) ∙ ap (λ (xs : List LogLine). Ok xs) (append-nil lines)
@@ -61,5 +66,6 @@ pub all_bytes : (bytes : List ℕ) → ((k : ℕ) → get_or bytes k 0 < 256) �
 all_bytes [] h = tt
 all_bytes (b ∷ bytes) h = (h 0, all_bytes bytes (λ k. h (suc k)))
 
-pub bad_line : (text : List ℕ) (left : ℕ) → ((k : ℕ) → get_or text k 0 < 256) → log_from text ≡ Err left → IsFirstBadLine IsLog text (line_of_place (length text - left) text)
+pub bad_line : (text : List ℕ) (left : ℕ) → ((k : ℕ) → get_or text k 0 < 256) → log_from text ≡ Err left
+    → IsFirstBadLine IsLog text (line_of_place (length text - left) text)
 bad_line text left fits e = first_bad_line IsLog text (length text - left) (all_bytes text fits) (first_bad IsLog log_from log_reads text left e)

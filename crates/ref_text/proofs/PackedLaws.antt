@@ -25,7 +25,8 @@ use Rattle.ref_text.proofs.PackedNames.{is_name, name_from, name_to}
 abbrev Behind : ℕ → (Option Ref → List ℕ → Type 0) → Option Ref → List ℕ → Type 0
 Behind b second = Then (Literal (b ∷ [])) (λ _. second)
 
-behind_reads : (b : ℕ) → b < 256 → (second : Option Ref → List ℕ → Type 0) (read : List ℕ → Result (Option Ref × List ℕ) ℕ) → Reads second read → HasText second
+behind_reads : (b : ℕ) → b < 256 → (second : Option Ref → List ℕ → Type 0) (read : List ℕ → Result (Option Ref × List ℕ) ℕ) → Reads second read
+    → HasText second
     → Reads (Behind b second) (then_at (literal_at (b ∷ [])) (λ _. read))
 behind_reads b fits second read reads has =
     then_reads (Literal (b ∷ [])) (λ _. second) (literal_at (b ∷ [])) (λ _. read) (literal_reads (b ∷ []) (one_byte b fits)) (λ _ t h. reads) (λ _ t h. has)
@@ -94,12 +95,14 @@ peeled_reads = reads_same (Behind 94 AtDigits) IsPeeled peeled_from to from
         (f.4.0, d.0, record { forty = d.3.0; hex = d.3.1 }, g.5 ∙ ap (λ (l : List ℕ). g.1 ++ l) (d.5 ∙ ap (λ (l : List ℕ). d.1 ++ l) f.5) ∙ rw (e1, e2, e3, e4) refl)
 
     from : (x : Option Ref) (text : List ℕ) → IsPeeled x text → Behind 94 AtDigits x text
-    from x text h = (tt, 94 ∷ [], h.1 ++ 10 ∷ [], refl, (h.1, h.1, 10 ∷ [], (h.2.forty, h.2.hex, refl), (tt, 10 ∷ [], [], refl, (h.0, refl), refl), refl), h.3)
+    from x text h =
+        (tt, 94 ∷ [], h.1 ++ 10 ∷ [], refl, (h.1, h.1, 10 ∷ [], (h.2.forty, h.2.hex, refl), (tt, 10 ∷ [], [], refl, (h.0, refl), refl), refl), h.3)
 
 -- ---- a ref
 
 abbrev pub IsNamed : Option Ref → List ℕ → Type 0
-IsNamed x text = (digits : List ℕ) × (name : List ℕ) × (x ≡ Some (name, id_of digits)) × AreDigits digits × IsRefName name × (text ≡ digits ++ 32 ∷ name ++ 10 ∷ [])
+IsNamed x text =
+    (digits : List ℕ) × (name : List ℕ) × (x ≡ Some (name, id_of digits)) × AreDigits digits × IsRefName name × (text ≡ digits ++ 32 ∷ name ++ 10 ∷ [])
 
 abbrev AtName : List ℕ → Option Ref → List ℕ → Type 0
 AtName digits = Then (Word name_value 10) (λ name. Nothing (Some (name, id_of digits)))
@@ -219,22 +222,27 @@ Lines = Star next_after EachLine (λ s. End)
 abbrev Told : Bool → List Ref → List ℕ → Type 0
 Told after refs text = (lines : List PackedLine) × AreLines after refs lines × (text ≡ flat_map line_text lines)
 
-with_comment : (after : Bool) (refs : List Ref) (words : List ℕ) (lines : List PackedLine) → list_all in_line words ≡ true → AreLines false refs lines → AreLines after refs (comment words ∷ lines)
+with_comment : (after : Bool) (refs : List Ref) (words : List ℕ) (lines : List PackedLine) → list_all in_line words ≡ true → AreLines false refs lines
+    → AreLines after refs (comment words ∷ lines)
 with_comment after [] words lines h k = (h, k)
 with_comment after (r ∷ refs) words lines h k = (h, k)
 
-with_peeled : (after : Bool) (refs : List Ref) (digits : List ℕ) (lines : List PackedLine) → after ≡ true → ((id : List ℕ) × SpellsId id digits) → AreLines false refs lines → AreLines after refs (peeled digits ∷ lines)
+with_peeled : (after : Bool) (refs : List Ref) (digits : List ℕ) (lines : List PackedLine) → after ≡ true → ((id : List ℕ) × SpellsId id digits)
+    → AreLines false refs lines → AreLines after refs (peeled digits ∷ lines)
 with_peeled after [] digits lines on is k = (on, is, k)
 with_peeled after (r ∷ refs) digits lines on is k = (on, is, k)
 
-told_other : (after : Bool) (refs : List Ref) (first rest : List ℕ) → EachLine after None first → Told false refs rest → Told after refs (first ++ rest)
-told_other after refs first rest (inl h) k = (comment h.1 ∷ k.0, with_comment after refs h.1 k.0 h.2 k.1, ap (λ (l : List ℕ). l ++ rest) h.3 ∙ ap (λ (l : List ℕ). (35 ∷ h.1 ++ 10 ∷ []) ++ l) k.2)
+told_other : (after : Bool) (refs : List Ref) (first rest : List ℕ) → EachLine after None first → Told false refs rest
+    → Told after refs (first ++ rest)
+told_other after refs first rest (inl h) k =
+    (comment h.1 ∷ k.0, with_comment after refs h.1 k.0 h.2 k.1, ap (λ (l : List ℕ). l ++ rest) h.3 ∙ ap (λ (l : List ℕ). (35 ∷ h.1 ++ 10 ∷ []) ++ l) k.2)
 told_other after refs first rest (inr (inl h)) k =
     let d = h.1 in
     (peeled d.1 ∷ k.0, with_peeled after refs d.1 k.0 h.0 (id_of d.1, digits_spell d.1 d.2) k.1, ap (λ (l : List ℕ). l ++ rest) d.3 ∙ ap (λ (l : List ℕ). (94 ∷ d.1 ++ 10 ∷ []) ++ l) k.2)
 told_other after refs first rest (inr (inr h)) k = absurd (let e = h.2 in cc)
 
-told_named : (after : Bool) (refs : List Ref) (r : Ref) (first rest : List ℕ) → EachLine after (Some r) first → Told true refs rest → Told after (r ∷ refs) (first ++ rest)
+told_named : (after : Bool) (refs : List Ref) (r : Ref) (first rest : List ℕ) → EachLine after (Some r) first → Told true refs rest
+    → Told after (r ∷ refs) (first ++ rest)
 told_named after refs r first rest (inl h) k = absurd (let e = h.0 in cc)
 told_named after refs r first rest (inr (inl h)) k = absurd (let e = h.1.0 in cc)
 told_named after refs r first rest (inr (inr h)) k =
@@ -248,20 +256,24 @@ told_named after refs r first rest (inr (inr h)) k =
 told : (after : Bool) (xs : List (Option Ref)) (z : Unit {0}) (text : List ℕ) → Lines after xs z text → Told after (refs_of xs) text
 told after [] z text g = ([], tt, g)
 told after (None ∷ xs) z text g = subst (Told after (refs_of xs)) (sym g.4) (told_other after (refs_of xs) g.0 g.1 g.2 (told false xs z g.1 g.3))
-told after (Some r ∷ xs) z text g = subst (Told after (r ∷ refs_of xs)) (sym g.4) (told_named after (refs_of xs) r g.0 g.1 g.2 (told true xs z g.1 g.3))
+told after (Some r ∷ xs) z text g =
+    subst (Told after (r ∷ refs_of xs)) (sym g.4) (told_named after (refs_of xs) r g.0 g.1 g.2 (told true xs z g.1 g.3))
 
 -- some lines, of which these are the refs
 abbrev Read : Bool → List Ref → List ℕ → Type 0
 Read after refs text = (xs : List (Option Ref)) × Lines after xs tt text × (refs ≡ refs_of xs)
 
-read_other : (after : Bool) (refs : List Ref) (first rest : List ℕ) → EachLine after None first → Read false refs rest → Read after refs (first ++ rest)
+read_other : (after : Bool) (refs : List Ref) (first rest : List ℕ) → EachLine after None first → Read false refs rest
+    → Read after refs (first ++ rest)
 read_other after refs first rest is k = (None ∷ k.0, (first, rest, is, k.1, refl), k.2)
 
 lines_read : (after : Bool) (refs : List Ref) (lines : List PackedLine) → AreLines after refs lines → Read after refs (flat_map line_text lines)
 lines_read after [] [] h = ([], refl, refl)
 lines_read after (r ∷ refs) [] h = absurd h
-lines_read after [] (comment words ∷ lines) h = read_other after [] (35 ∷ words ++ 10 ∷ []) (flat_map line_text lines) (inl (refl, words, h.0, refl)) (lines_read false [] lines h.1)
-lines_read after (r ∷ refs) (comment words ∷ lines) h = read_other after (r ∷ refs) (35 ∷ words ++ 10 ∷ []) (flat_map line_text lines) (inl (refl, words, h.0, refl)) (lines_read false (r ∷ refs) lines h.1)
+lines_read after [] (comment words ∷ lines) h =
+    read_other after [] (35 ∷ words ++ 10 ∷ []) (flat_map line_text lines) (inl (refl, words, h.0, refl)) (lines_read false [] lines h.1)
+lines_read after (r ∷ refs) (comment words ∷ lines) h =
+    read_other after (r ∷ refs) (35 ∷ words ++ 10 ∷ []) (flat_map line_text lines) (inl (refl, words, h.0, refl)) (lines_read false (r ∷ refs) lines h.1)
 lines_read after [] (peeled digits ∷ lines) h =
     read_other after [] (94 ∷ digits ++ 10 ∷ []) (flat_map line_text lines) (inr (inl (h.0, (refl, digits, spelled_digits h.1.0 digits h.1.1, refl)))) (lines_read false [] lines h.2)
 lines_read after (r ∷ refs) (peeled digits ∷ lines) h =
@@ -288,5 +300,6 @@ starred_from refs text h =
 
 pub packed_reads : ReadsAll IsPacked packed_from
 unfolding packed_from
-packed_reads = all_mapped Starred IsPacked (λ bytes. star_at any_byte next_after packed_line_from (λ s rest. end_at rest) (length bytes) false bytes) (λ p. refs_of p.0) starred_to starred_from
+packed_reads =
+    all_mapped Starred IsPacked (λ bytes. star_at any_byte next_after packed_line_from (λ s rest. end_at rest) (length bytes) false bytes) (λ p. refs_of p.0) starred_to starred_from
     (star_reads AnyState any_byte next_after EachLine (λ s. End) packed_line_from (λ s rest. end_at rest) packed_star false tt)

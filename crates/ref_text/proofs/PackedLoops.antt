@@ -43,26 +43,30 @@ refs-push (Some q ∷ lines) line = ap (λ (rs : List Ref). q ∷ rs) (refs-push
     first None = refl
     first (Some r) = refl
 
-pub packed_more : (bytes : List ℕ) (refs : List Ref) (after : Bool) (rest : List ℕ) (line : Option Ref) (behind : List ℕ) → eqb (length rest) 0 ≡ false → packed_line_from after rest ≡ Ok (line, behind)
+pub packed_more : (bytes : List ℕ) (refs : List Ref) (after : Bool) (rest : List ℕ) (line : Option Ref) (behind : List ℕ)
+    → eqb (length rest) 0 ≡ false → packed_line_from after rest ≡ Ok (line, behind)
     → PackedLoop bytes refs after rest → PackedLoop bytes (with_line refs line) (is_some line) behind × (length behind < length rest)
 packed_more bytes refs after rest line behind some read l =
     let k = loop_more AnyState any_byte next_after EachLine (λ s. End) packed_line_from (λ s rest. end_at rest) packed_star (total bytes) l.0 after rest line behind (begins_rest rest some) read l.1 in
     ((l.0 ++ line ∷ [], k.0, ap (λ (rs : List Ref). with_line rs line) l.2 ∙ sym (refs-push l.0 line)), k.1)
 
 -- the same, at values that the code made
-pub packed_step : (bytes : List ℕ) (refs next : List Ref) (after on : Bool) (rest : List ℕ) (line : Option Ref) (behind : List ℕ) → eqb (length rest) 0 ≡ false → packed_line_from after rest ≡ Ok (line, behind)
+pub packed_step : (bytes : List ℕ) (refs next : List Ref) (after on : Bool) (rest : List ℕ) (line : Option Ref) (behind : List ℕ)
+    → eqb (length rest) 0 ≡ false → packed_line_from after rest ≡ Ok (line, behind)
     → next ≡ with_line refs line → on ≡ is_some line → PackedLoop bytes refs after rest → PackedLoop bytes next on behind
 packed_step bytes refs next after on rest line behind some read next_is on_is l =
     subst (λ (rs : List Ref). PackedLoop bytes rs on behind) (sym next_is) (subst (λ (t : Bool). PackedLoop bytes (with_line refs line) t behind) (sym on_is) (packed_more bytes refs after rest line behind some read l).0)
 
-pub packed_err : (bytes : List ℕ) (refs : List Ref) (after : Bool) (rest : List ℕ) (d : ReadError) → eqb (length rest) 0 ≡ false → Fails d (packed_line_from after rest) → PackedLoop bytes refs after rest → Fails d (packed_from bytes)
+pub packed_err : (bytes : List ℕ) (refs : List Ref) (after : Bool) (rest : List ℕ) (d : ReadError) → eqb (length rest) 0 ≡ false
+    → Fails d (packed_line_from after rest) → PackedLoop bytes refs after rest → Fails d (packed_from bytes)
 unfolding packed_from
 packed_err bytes refs after rest errors.Memory some read l = tt
 packed_err bytes refs after rest (errors.Stopped n) some read l =
     ap (λ (r : Result (List (Option Ref) × Unit {0}) ℕ). r >>= λ p. Ok (refs_of p.0))
     (loop_err AnyState any_byte next_after EachLine (λ s. End) packed_line_from (λ s rest. end_at rest) packed_star (total bytes) l.0 after rest (errors.Stopped n) (begins_rest rest some) read l.1)
 
-pub packed_done : (bytes : List ℕ) (refs : List Ref) (after : Bool) (rest : List ℕ) → eqb (length rest) 0 ≡ true → PackedLoop bytes refs after rest → packed_from bytes ≡ Ok refs
+pub packed_done : (bytes : List ℕ) (refs : List Ref) (after : Bool) (rest : List ℕ) → eqb (length rest) 0 ≡ true → PackedLoop bytes refs after rest
+    → packed_from bytes ≡ Ok refs
 unfolding packed_from
 packed_done bytes refs after [] none l =
     ap (λ (r : Result (List (Option Ref) × Unit {0}) ℕ). r >>= λ p. Ok (refs_of p.0))
@@ -79,5 +83,7 @@ pub no_others : (refs others : List Ref) (text : List ℕ) → IsPacked refs tex
 no_others refs others text h g = (read_whole IsPacked packed_from packed_reads text refs (packed_reads.again refs text h)).1 others g
 
 -- the line of a fault
-pub bad_packed_line : (text : List ℕ) (left : ℕ) → ((k : ℕ) → get_or text k 0 < 256) → packed_from text ≡ Err left → IsFirstBadLine IsPacked text (line_of_place (length text - left) text)
-bad_packed_line text left fits e = first_bad_line IsPacked text (length text - left) (all_bytes text fits) (first_bad IsPacked packed_from packed_reads text left e)
+pub bad_packed_line : (text : List ℕ) (left : ℕ) → ((k : ℕ) → get_or text k 0 < 256) → packed_from text ≡ Err left
+    → IsFirstBadLine IsPacked text (line_of_place (length text - left) text)
+bad_packed_line text left fits e =
+    first_bad_line IsPacked text (length text - left) (all_bytes text fits) (first_bad IsPacked packed_from packed_reads text left e)

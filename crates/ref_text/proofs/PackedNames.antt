@@ -17,7 +17,8 @@ use Rattle.seq_base.proofs.RefFrontLaws.{at_start, name_goes_on, some_name, step
 use Rattle.seq_base.proofs.RefPaths.{below_refs}
 use Rattle.ref_text.specs.ReadPacked.{at_name, behind_all, may_name, name_value, then_front}
 
-some_front : (o : Option RefFront) (f : RefFront → Option RefFront) (t : RefFront) → then_front o f ≡ Some t → (s : RefFront) × (o ≡ Some s) × (f s ≡ Some t)
+some_front : (o : Option RefFront) (f : RefFront → Option RefFront) (t : RefFront) → then_front o f ≡ Some t
+    → (s : RefFront) × (o ≡ Some s) × (f s ≡ Some t)
 some_front None f t e = absurd cc
 some_front (Some s) f t e = (s, refl, e)
 
@@ -47,7 +48,8 @@ goes_all s seen (b ∷ bytes) rest here is =
     ap (λ (o : Option RefFront). is_some (then_front o (λ u. behind_all u (seen ++ b ∷ []) bytes))) e ∙ more
 
 -- one byte more
-pub behind_more : (s : RefFront) (seen bytes : List ℕ) (b : ℕ) → behind_all s seen (bytes ++ b ∷ []) ≡ then_front (behind_all s seen bytes) (λ t. behind t (seen ++ (bytes ++ b ∷ [])))
+pub behind_more : (s : RefFront) (seen bytes : List ℕ) (b : ℕ)
+    → behind_all s seen (bytes ++ b ∷ []) ≡ then_front (behind_all s seen bytes) (λ t. behind t (seen ++ (bytes ++ b ∷ [])))
 unfolding behind_all
 behind_more s seen [] b = at (behind s (seen ++ b ∷ []))
   where
@@ -56,12 +58,16 @@ behind_more s seen [] b = at (behind s (seen ++ b ∷ []))
     at (Some t) = refl
 behind_more s seen (c ∷ bytes) b = at (behind s (seen ++ c ∷ [])) (λ t. behind_more t (seen ++ c ∷ []) bytes b)
   where
-    at : (o : Option RefFront) → ((t : RefFront) → behind_all t (seen ++ c ∷ []) (bytes ++ b ∷ []) ≡ then_front (behind_all t (seen ++ c ∷ []) bytes) (λ u. behind u ((seen ++ c ∷ []) ++ (bytes ++ b ∷ []))))
+    at : (o : Option RefFront)
+        → ((t : RefFront) → behind_all t (seen ++ c ∷ []) (bytes ++ b ∷ []) ≡ then_front (behind_all t (seen ++ c ∷ []) bytes) (λ u. behind u ((seen ++ c ∷ []) ++ (bytes ++ b ∷ []))))
         → then_front o (λ t. behind_all t (seen ++ c ∷ []) (bytes ++ b ∷ [])) ≡ then_front (then_front o (λ t. behind_all t (seen ++ c ∷ []) bytes)) (λ u. behind u (seen ++ (c ∷ bytes ++ b ∷ [])))
     at None later = refl
-    at (Some t) later = later t ∙ ap (λ (l : List ℕ). then_front (behind_all t (seen ++ c ∷ []) bytes) (λ u. behind u l)) (append_assoc seen (c ∷ []) (bytes ++ b ∷ []))
+    at (Some t) later =
+        later t
+        ∙ ap (λ (l : List ℕ). then_front (behind_all t (seen ++ c ∷ []) bytes) (λ u. behind u l)) (append_assoc seen (c ∷ []) (bytes ++ b ∷ []))
 
-pub front_behind : (s : RefFront) (front seen : List ℕ) (b : ℕ) → behind_all at_name [] seen ≡ Some s → front ≡ seen ++ b ∷ [] → behind_all at_name [] front ≡ behind s front
+pub front_behind : (s : RefFront) (front seen : List ℕ) (b : ℕ) → behind_all at_name [] seen ≡ Some s → front ≡ seen ++ b ∷ []
+    → behind_all at_name [] front ≡ behind s front
 front_behind s front seen b e is =
     ap (behind_all at_name []) is ∙ behind_more at_name [] seen b ∙ ap (λ (o : Option RefFront). then_front o (λ t. behind t (seen ++ b ∷ []))) e ∙ ap (behind s) (sym is)
 

@@ -28,7 +28,8 @@ use Rattle.ref_text.proofs.Written.{id_spells}
 -- ---- a world that is written
 
 put_here : (w : World) (path bytes : List ℕ) → map.get (map.insert w path bytes) path ≡ Some bytes
-put_here w path bytes = get-insert nat_list_cmp_total w path bytes path ∙ ap (λ (b : Bool). cond b (Some bytes) (map.get w path)) (equal_to_itself path)
+put_here w path bytes =
+    get-insert nat_list_cmp_total w path bytes path ∙ ap (λ (b : Bool). cond b (Some bytes) (map.get w path)) (equal_to_itself path)
 
 apart : (p q : List ℕ) → q ≢ p → eq_by_cmp path_cmp q p ≡ false
 apart p q ne = false_from_ne_true (eq_by_cmp path_cmp q p) (λ is. ne (same_path q p is))
@@ -48,13 +49,16 @@ differs : (n : ℕ) (a b : List ℕ) → (get_or a n 0 ≡ get_or b n 0 → ⊥)
 differs n a b ne e = ne (ap (λ (l : List ℕ). get_or l n 0) e)
 
 first_of : (P : ℕ → Type 0) → P 72 → P 114 → (name : List ℕ) → IsRefName name → P (get_or name 0 0)
-first_of P head below name is = each_name (λ n. P (get_or n 0 0)) name head (λ h. subst (λ (n : List ℕ). P (get_or n 0 0)) (sym (behind_front (codes "refs/") name (below_refs name h).begins)) below) is
+first_of P head below name is =
+    each_name (λ n. P (get_or n 0 0)) name head (λ h. subst (λ (n : List ℕ). P (get_or n 0 0)) (sym (behind_front (codes "refs/") name (below_refs name h).begins)) below) is
 
 pub ref_no_log : (name other : List ℕ) → IsRefName name → ref_path name ≢ log_path other
-ref_no_log name other is e = first_of (λ b. b ≡ 108 → ⊥) (λ k. absurd (omega arith)) (λ k. absurd (omega arith)) name is (ap (λ (l : List ℕ). get_or l 5 0) e)
+ref_no_log name other is e =
+    first_of (λ b. b ≡ 108 → ⊥) (λ k. absurd (omega arith)) (λ k. absurd (omega arith)) name is (ap (λ (l : List ℕ). get_or l 5 0) e)
 
 pub ref_no_packed : (name : List ℕ) → IsRefName name → packed_path ≢ ref_path name
-ref_no_packed name is e = first_of (λ b. b ≡ 112 → ⊥) (λ k. absurd (omega arith)) (λ k. absurd (omega arith)) name is (sym (ap (λ (l : List ℕ). get_or l 5 0) e))
+ref_no_packed name is e =
+    first_of (λ b. b ≡ 112 → ⊥) (λ k. absurd (omega arith)) (λ k. absurd (omega arith)) name is (sym (ap (λ (l : List ℕ). get_or l 5 0) e))
 
 pub log_no_packed : (name : List ℕ) → packed_path ≢ log_path name
 log_no_packed name = differs 5 packed_path (log_path name) (λ k. absurd (omega arith))
@@ -68,21 +72,29 @@ logged_there w name q line ne = at (has_log name) (unwrap_or (map.get w (log_pat
     at true bytes = put_there w (log_path name) bytes q ne
     at false bytes = refl
 
-pub set_there : (w : World) (name id q : List ℕ) (line : LogLine) → q ≢ ref_path name → q ≢ log_path name → map.get (set_ref w name id line) q ≡ map.get w q
-set_there w name id q line ref log = logged_there (map.insert w (ref_path name) (head_text (Detached id))) name q line log ∙ put_there w (ref_path name) (head_text (Detached id)) q ref
+pub set_there : (w : World) (name id q : List ℕ) (line : LogLine) → q ≢ ref_path name → q ≢ log_path name
+    → map.get (set_ref w name id line) q ≡ map.get w q
+set_there w name id q line ref log =
+    logged_there (map.insert w (ref_path name) (head_text (Detached id))) name q line log
+    ∙ put_there w (ref_path name) (head_text (Detached id)) q ref
 
-pub set_here : (w : World) (name id : List ℕ) (line : LogLine) → IsRefName name → map.get (set_ref w name id line) (ref_path name) ≡ Some (head_text (Detached id))
-set_here w name id line is = logged_there (map.insert w (ref_path name) (head_text (Detached id))) name (ref_path name) line (ref_no_log name name is) ∙ put_here w (ref_path name) (head_text (Detached id))
+pub set_here : (w : World) (name id : List ℕ) (line : LogLine) → IsRefName name
+    → map.get (set_ref w name id line) (ref_path name) ≡ Some (head_text (Detached id))
+set_here w name id line is =
+    logged_there (map.insert w (ref_path name) (head_text (Detached id))) name (ref_path name) line (ref_no_log name name is)
+    ∙ put_here w (ref_path name) (head_text (Detached id))
 
 either : (b : Bool) (P Q : Type 0) → P → Q → MatchBool b P Q
 either true P Q p q = p
 either false P Q p q = q
 
 pub id_file : (name id : List ℕ) → IsId id → SpellsFile name (Detached id) (head_text (Detached id))
-id_file name id is = either (bytes_eq name head_name) (SpellsHead (Detached id) (head_text (Detached id))) (SpellsLoose (Detached id) (head_text (Detached id))) (id_spells id is)
+id_file name id is =
+    either (bytes_eq name head_name) (SpellsHead (Detached id) (head_text (Detached id))) (SpellsLoose (Detached id) (head_text (Detached id))) (id_spells id is)
     (record { line = encode_lower id; blanks = []; end = 10 ∷ []; is_line = id_spells id is; are_blanks = refl; is_end = inr refl; bytes_are = ap (λ (l : List ℕ). l ++ 10 ∷ []) (sym (append-nil (encode_lower id))) })
 
-pub set_within : (n : ℕ) (w : World) (name id : List ℕ) (line : LogLine) → IsRefName name → IsId id → RefWithin (suc n) (set_ref w name id line) name (Some id)
+pub set_within : (n : ℕ) (w : World) (name id : List ℕ) (line : LogLine) → IsRefName name → IsId id
+    → RefWithin (suc n) (set_ref w name id line) name (Some id)
 set_within n w name id line is bytes =
     let after = set_ref w name id line in
     subst (Decides after (λ other. RefWithin n after other (Some id)) name (Some id)) (sym (set_here w name id line is)) (Detached id, id_file name id bytes, refl)
@@ -99,15 +111,18 @@ led_name name other bytes h = at (bytes_eq name head_name) h
     at false g = g.is_line.0
 
 -- how a value is found with one more name that leads on
-step_set : (n : ℕ) (w after : World) (other id : List ℕ) (value o : Option (List ℕ)) → map.get after (ref_path other) ≡ o → map.get after packed_path ≡ map.get w packed_path
+step_set : (n : ℕ) (w after : World) (other id : List ℕ) (value o : Option (List ℕ)) → map.get after (ref_path other) ≡ o
+    → map.get after packed_path ≡ map.get w packed_path
     → ((next : List ℕ) → IsRefName next → RefWithin n w next value → RefWithin n after next value ⊎ RefWithin n after next (Some id))
     → Decides w (λ next. RefWithin n w next value) other value o → RefWithin (suc n) after other value ⊎ RefWithin (suc n) after other (Some id)
 step_set n w after other id value (Some bytes) here packed later h = lead h.0 h.1 h.2
   where
-    found : (v : Option (List ℕ)) (x : Head) → SpellsFile other x bytes → Leads (λ next. RefWithin n after next v) v x → RefWithin (suc n) after other v
+    found : (v : Option (List ℕ)) (x : Head) → SpellsFile other x bytes → Leads (λ next. RefWithin n after next v) v x
+        → RefWithin (suc n) after other v
     found v x file leads = subst (Decides after (λ next. RefWithin n after next v) other v) (sym here) (x, file, leads)
 
-    lead : (x : Head) → SpellsFile other x bytes → Leads (λ next. RefWithin n w next value) value x → RefWithin (suc n) after other value ⊎ RefWithin (suc n) after other (Some id)
+    lead : (x : Head) → SpellsFile other x bytes → Leads (λ next. RefWithin n w next value) value x
+        → RefWithin (suc n) after other value ⊎ RefWithin (suc n) after other (Some id)
     lead (Detached i) file leads = inl (found value (Detached i) file leads)
     lead (Branch next) file leads = elim (later next (led_name other next bytes file) leads) [
       | inl same ↦ inl (found value (Branch next) file same)
@@ -117,7 +132,8 @@ step_set n w after other id value None here packed later h =
     inl (subst (Decides after (λ next. RefWithin n after next value) other value) (sym here)
     (h.0, subst (λ (b : Option (List ℕ)). IsPacked h.0 (unwrap_or b [])) (sym packed) h.1, h.2))
 
-after_set : (n : ℕ) (w : World) (name id : List ℕ) (line : LogLine) → IsRefName name → IsId id → (other : List ℕ) (value : Option (List ℕ)) → IsRefName other → RefWithin n w other value
+after_set : (n : ℕ) (w : World) (name id : List ℕ) (line : LogLine) → IsRefName name → IsId id → (other : List ℕ) (value : Option (List ℕ))
+    → IsRefName other → RefWithin n w other value
     → RefWithin n (set_ref w name id line) other value ⊎ RefWithin n (set_ref w name id line) other (Some id)
 after_set zero w name id line is bytes other value told h = absurd h
 after_set (suc n) w name id line is bytes other value told h = elim (cases_Bool (bytes_eq other name)) [
@@ -130,7 +146,8 @@ after_set (suc n) w name id line is bytes other value told h = elim (cases_Bool 
 ]
 
 -- what any name had it has, or it leads to the one that was set
-pub set_others : (w : World) (name id : List ℕ) (line : LogLine) → IsRefName name → IsId id → (other : List ℕ) (value : Option (List ℕ)) → IsRefName other → RefAt w other value
+pub set_others : (w : World) (name id : List ℕ) (line : LogLine) → IsRefName name → IsId id → (other : List ℕ) (value : Option (List ℕ))
+    → IsRefName other → RefAt w other value
     → RefAt (set_ref w name id line) other value ⊎ RefAt (set_ref w name id line) other (Some id)
 set_others w name id line is bytes other value told h = after_set 6 w name id line is bytes other value told h
 
@@ -143,20 +160,23 @@ unpacked_there w refs name q ne = at (is_packed refs name)
     at true = put_there w packed_path (packed_text (without name refs)) q ne
     at false = refl
 
-pub delete_there : (w : World) (name q : List ℕ) (refs : Refs) → q ≢ ref_path name → q ≢ packed_path → map.get (delete_ref w refs name) q ≡ map.get w q
+pub delete_there : (w : World) (name q : List ℕ) (refs : Refs) → q ≢ ref_path name → q ≢ packed_path
+    → map.get (delete_ref w refs name) q ≡ map.get w q
 delete_there w name q refs ref packed = gone_there (unpacked w refs name) (ref_path name) q ref ∙ unpacked_there w refs name q packed
 
 pub delete_here : (w : World) (name : List ℕ) (refs : Refs) → map.get (delete_ref w refs name) (ref_path name) ≡ None
 delete_here w name refs = gone_here (unpacked w refs name) (ref_path name)
 
-unpacked_at : (t : Bool) (w : World) (name : List ℕ) (refs : Refs) → is_packed refs name ≡ t → PackedAt w refs → PackedAt (cond t (map.insert w packed_path (packed_text (without name refs))) w) (without name refs)
+unpacked_at : (t : Bool) (w : World) (name : List ℕ) (refs : Refs) → is_packed refs name ≡ t → PackedAt w refs
+    → PackedAt (cond t (map.insert w packed_path (packed_text (without name refs))) w) (without name refs)
 unpacked_at true w name refs there packed =
     subst (λ (b : Option (List ℕ)). IsPacked (without name refs) (unwrap_or b [])) (sym (put_here w packed_path (packed_text (without name refs))))
     (packed_spells (without name refs) (packed_without name refs (packed_refs false refs packed.lines packed.are_lines)))
 unpacked_at false w name refs none packed = subst (PackedAt w) (sym (without_none name refs none)) packed
 
 -- the packed refs are those without the name
-pub delete_packed : (w : World) (name : List ℕ) (refs : Refs) → IsRefName name → PackedAt w refs → PackedAt (delete_ref w refs name) (without name refs)
+pub delete_packed : (w : World) (name : List ℕ) (refs : Refs) → IsRefName name → PackedAt w refs
+    → PackedAt (delete_ref w refs name) (without name refs)
 delete_packed w name refs is packed =
     subst (λ (b : Option (List ℕ)). IsPacked (without name refs) (unwrap_or b [])) (sym (gone_there (unpacked w refs name) (ref_path name) packed_path (ref_no_packed name is)))
     (unpacked_at _ w name refs refl packed)

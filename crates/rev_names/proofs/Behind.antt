@@ -39,7 +39,8 @@ few_to : (id : List ℕ) (c : CommitFields) (many : Bool) (f : FoundCommit) → 
 few_to id c true f e = absurd cc
 few_to id c false f e = ap (λ (found : FoundCommit). found.commit) (ok_inj e)
 
-spelled_opened : (id content : List ℕ) → spelled_at id content ≡ found_of id (or_stop (commit_of content) (lack.Object id) >>= λ c. few c (nat_lt 16 (length c.parents)))
+spelled_opened : (id content : List ℕ)
+    → spelled_at id content ≡ found_of id (or_stop (commit_of content) (lack.Object id) >>= λ c. few c (nat_lt 16 (length c.parents)))
 spelled_opened id content = unfold spelled_at in unfold commit_spelled in refl
 
 spelled_to_at : (id content : List ℕ) (o : Option CommitFields) (f : FoundCommit) → commit_of content ≡ o
@@ -50,7 +51,8 @@ spelled_to_at id content None f is e = absurd cc
 spelled_to : (id content : List ℕ) (f : FoundCommit) → spelled_at id content ≡ Ok f → commit_of content ≡ Some f.commit
 spelled_to id content f e = spelled_to_at id content (commit_of content) f refl (sym (spelled_opened id content) ∙ e)
 
-pub spelled_from : (id content : List ℕ) (c : CommitFields) → commit_of content ≡ Some c → length c.parents ≤ 16 → spelled_at id content ≡ Ok (record { id = id; commit = c })
+pub spelled_from : (id content : List ℕ) (c : CommitFields) → commit_of content ≡ Some c → length c.parents ≤ 16
+    → spelled_at id content ≡ Ok (record { id = id; commit = c })
 spelled_from id content c is some =
     let small : nat_lt 16 (length c.parents) ≡ false = grind (arith, nat_tests) in
     spelled_opened id content ∙ rw (is, small) refl
@@ -77,7 +79,8 @@ object_to id (Some object) size on next f each e = kind_to id object.kind object
 object_to id None size on next f each e = absurd cc
 
 abbrev on_object : World → List ℕ → (List ℕ → Read) → Read
-on_object w id on = for_reason bad_object (or_stop (object_at w id) (no_object id (oversize_at w id))) >>= λ object. commit_or_behind on id object.kind object.bytes
+on_object w id on =
+    for_reason bad_object (or_stop (object_at w id) (no_object id (oversize_at w id))) >>= λ object. commit_or_behind on id object.kind object.bytes
 
 abbrev next_object : World → List ℕ → (List ℕ → Option CommitFields) → Option CommitFields
 next_object w id next = option_and_then (λ object. commit_if next object.kind object.bytes) (object_at w id)
@@ -95,8 +98,12 @@ commit_more : (n : ℕ) (w : World) (id : List ℕ) → commit_within (suc n) w 
 commit_more n w id = unfold commit_within in refl
 
 pub found_to : (n : ℕ) (w : World) (id : List ℕ) (f : FoundCommit) → found_within n w id ≡ Ok f → commit_within n w id ≡ Some f.commit
-found_to zero w id f e = commit_last w id ∙ object_to id (object_at w id) (oversize_at w id) (λ _. Err NotACommit) (λ _. None) f (λ named found k. absurd cc) (sym (found_last w id) ∙ e)
-found_to (suc n) w id f e = commit_more n w id ∙ object_to id (object_at w id) (oversize_at w id) (found_within n w) (commit_within n w) f (λ named found k. found_to n w named found k) (sym (found_more n w id) ∙ e)
+found_to zero w id f e =
+    commit_last w id
+    ∙ object_to id (object_at w id) (oversize_at w id) (λ _. Err NotACommit) (λ _. None) f (λ named found k. absurd cc) (sym (found_last w id) ∙ e)
+found_to (suc n) w id f e =
+    commit_more n w id
+    ∙ object_to id (object_at w id) (oversize_at w id) (found_within n w) (commit_within n w) f (λ named found k. found_to n w named found k) (sym (found_more n w id) ∙ e)
 
 -- ---- and back
 
@@ -108,14 +115,16 @@ tagged_from : (id : List ℕ) (o : Option (List ℕ)) (on : List ℕ → Read) (
 tagged_from id (Some named) on next c each e = each named e
 tagged_from id None on next c each e = absurd cc
 
-kind_from : (id : List ℕ) (kind : Kind) (content : List ℕ) (on : List ℕ → Read) (next : List ℕ → Option CommitFields) (c : CommitFields) → length c.parents ≤ 16
+kind_from : (id : List ℕ) (kind : Kind) (content : List ℕ) (on : List ℕ → Read) (next : List ℕ → Option CommitFields) (c : CommitFields)
+    → length c.parents ≤ 16
     → ((named : List ℕ) → next named ≡ Some c → Leads (on named) c) → commit_if next kind content ≡ Some c → Leads (commit_or_behind on id kind content) c
 kind_from id Commit content on next c some each e = (record { id = id; commit = c }, spelled_from id content c e some, refl)
 kind_from id Tag content on next c some each e = unfold tagged in tagged_from id (named_of content) on next c each e
 kind_from id Blob content on next c some each e = absurd cc
 kind_from id Tree content on next c some each e = absurd cc
 
-object_from : (id : List ℕ) (o : Option Object) (size : Option ℕ) (on : List ℕ → Read) (next : List ℕ → Option CommitFields) (c : CommitFields) → length c.parents ≤ 16
+object_from : (id : List ℕ) (o : Option Object) (size : Option ℕ) (on : List ℕ → Read) (next : List ℕ → Option CommitFields) (c : CommitFields)
+    → length c.parents ≤ 16
     → ((named : List ℕ) → next named ≡ Some c → Leads (on named) c) → option_and_then (λ object. commit_if next object.kind object.bytes) o ≡ Some c
     → Leads (for_reason bad_object (or_stop o (no_object id size)) >>= λ object. commit_or_behind on id object.kind object.bytes) c
 object_from id (Some object) size on next c some each e = kind_from id object.kind object.bytes on next c some each e
@@ -124,7 +133,8 @@ object_from id None size on next c some each e = absurd cc
 opened : (read other : Read) (c : CommitFields) → read ≡ other → Leads other c → Leads read c
 opened read other c is leads = (leads.0, is ∙ leads.1, leads.2)
 
-pub found_from : (n : ℕ) (w : World) (id : List ℕ) (c : CommitFields) → length c.parents ≤ 16 → commit_within n w id ≡ Some c → Leads (found_within n w id) c
+pub found_from : (n : ℕ) (w : World) (id : List ℕ) (c : CommitFields) → length c.parents ≤ 16 → commit_within n w id ≡ Some c
+    → Leads (found_within n w id) c
 found_from zero w id c some e =
     opened (found_within zero w id) (on_object w id (λ _. Err NotACommit)) c (found_last w id)
     (object_from id (object_at w id) (oversize_at w id) (λ _. Err NotACommit) (λ _. None) c some (λ named k. absurd cc) (sym (commit_last w id) ∙ e))

@@ -16,7 +16,8 @@ past [] n h = refl
 past (x ∷ lines) zero h = absurd (omega (arith, h))
 past (x ∷ lines) (suc n) h = past lines n (omega (arith, h))
 
-pub entry_there : (lines : List LogLine) (n : ℕ) (line : LogLine) → n < length lines → line ≡ get_or lines (length lines - 1 - n) line → new_before n lines ≡ Some line.new
+pub entry_there : (lines : List LogLine) (n : ℕ) (line : LogLine) → n < length lines → line ≡ get_or lines (length lines - 1 - n) line
+    → new_before n lines ≡ Some line.new
 entry_there lines n line h is =
     ap (option_map (λ (l : LogLine). l.new)) (there (reverse lines) n line (omega (arith, h, length-reverse lines)) ∙ ap Some (get_or-reverse lines n line h ∙ sym is))
 

@@ -46,25 +46,29 @@ spelled_read w id o there kind f e =
     let k = with_id id (commit_spelled id o.bytes) f (unfold spelled_at in e) in
     subst (λ (i : List ℕ). commit_named w i ≡ Ok f.commit) (sym k.0) (unfold commit_named in rw there (unfold commit_in in rw kind k.1))
 
-named_read : (w : World) (id : List ℕ) (o : Option (List ℕ)) (on : List ℕ → Result FoundCommit RevFault) → ((named : List ℕ) → Reads w (on named)) → Reads w (or_stop o (BadObject id) >>= on)
+named_read : (w : World) (id : List ℕ) (o : Option (List ℕ)) (on : List ℕ → Result FoundCommit RevFault) → ((named : List ℕ) → Reads w (on named))
+    → Reads w (or_stop o (BadObject id) >>= on)
 named_read w id (Some named) on each f e = each named f e
 named_read w id None on each f e = absurd cc
 
-kind_read : (w : World) (id : List ℕ) (o : Object) (kind : Kind) (on : List ℕ → Result FoundCommit RevFault) → object_named w id ≡ Ok o → o.kind ≡ kind → ((named : List ℕ) → Reads w (on named))
+kind_read : (w : World) (id : List ℕ) (o : Object) (kind : Kind) (on : List ℕ → Result FoundCommit RevFault) → object_named w id ≡ Ok o
+    → o.kind ≡ kind → ((named : List ℕ) → Reads w (on named))
     → Reads w (commit_or_behind on id kind o.bytes)
 kind_read w id o Commit on there is each f e = spelled_read w id o there is f e
 kind_read w id o Tag on there is each f e = named_read w id (named_of o.bytes) on each f (unfold tagged in e)
 kind_read w id o Blob on there is each f e = absurd cc
 kind_read w id o Tree on there is each f e = absurd cc
 
-object_read : (w : World) (id : List ℕ) (r : Result Object Lack) (on : List ℕ → Result FoundCommit RevFault) → object_named w id ≡ r → ((named : List ℕ) → Reads w (on named))
+object_read : (w : World) (id : List ℕ) (r : Result Object Lack) (on : List ℕ → Result FoundCommit RevFault) → object_named w id ≡ r
+    → ((named : List ℕ) → Reads w (on named))
     → Reads w (for_reason bad_object r >>= λ o. commit_or_behind on id o.kind o.bytes)
 object_read w id (Ok o) on there each f e = kind_read w id o o.kind on there refl each f e
 object_read w id (Err why) on there each f e = absurd cc
 
 within_read : (n : ℕ) (w : World) (id : List ℕ) → Reads w (found_within n w id)
 within_read zero w id f e = object_read w id (object_named w id) (λ _. Err NotACommit) refl (λ named found k. absurd cc) f (unfold found_within in e)
-within_read (suc n) w id f e = object_read w id (object_named w id) (found_within n w) refl (λ named. within_read n w named) f (unfold found_within in e)
+within_read (suc n) w id f e =
+    object_read w id (object_named w id) (found_within n w) refl (λ named. within_read n w named) f (unfold found_within in e)
 
 -- ---- steps
 
@@ -80,7 +84,8 @@ parent_of_read w None f e = absurd cc
 parent_read : (w : World) (parents : List (List ℕ)) (n : ℕ) → Reads w (parent_at w parents n)
 parent_read w parents n f e = parent_of_read w (slice_get parents (n - 1)) f (unfold parent_at in e)
 
-then_read : (w : World) (r : Result FoundCommit RevFault) (next : FoundCommit → Result FoundCommit RevFault) → Reads w r → ((found : FoundCommit) → IsRead w found → Reads w (next found)) → Reads w (r >>= next)
+then_read : (w : World) (r : Result FoundCommit RevFault) (next : FoundCommit → Result FoundCommit RevFault) → Reads w r
+    → ((found : FoundCommit) → IsRead w found → Reads w (next found)) → Reads w (r >>= next)
 then_read w (Ok found) next is each f e = each found (is found refl) f e
 then_read w (Err why) next is each f e = absurd cc
 
@@ -92,7 +97,8 @@ ancestor_read zero w from is f e = subst (IsRead w) (ok_inj (sym (here w from) �
 ancestor_read (suc n) w from is f e =
     then_read w (parent_at w from.commit.parents 1) (ancestor_at n w) (parent_read w from.commit.parents 1) (λ found k. ancestor_read n w found k) f (unfold ancestor_at in e)
 
-numbered_read : (w : World) (from : FoundCommit) (n : ℕ) (itself : Bool) → IsRead w from → Reads w (cond itself (Ok from) (parent_at w from.commit.parents n))
+numbered_read : (w : World) (from : FoundCommit) (n : ℕ) (itself : Bool) → IsRead w from
+    → Reads w (cond itself (Ok from) (parent_at w from.commit.parents n))
 numbered_read w from n true is f e = subst (IsRead w) (ok_inj e) is
 numbered_read w from n false is f e = parent_read w from.commit.parents n f e
 
@@ -114,18 +120,21 @@ last_read : (w : World) (r : Result FoundCommit RevFault) (id : List ℕ) → Re
 last_read w (Ok last) id is e = subst (NamesCommit w) (ok_inj e) (last.commit, is last refl)
 last_read w (Err why) id is e = absurd cc
 
-found_read : (w : World) (r : Result FoundCommit RevFault) (steps : List Step) (id : List ℕ) → Reads w r → (r >>= λ found. (steps_to w found steps >>= λ last. Ok last.id)) ≡ Ok id → NamesCommit w id
+found_read : (w : World) (r : Result FoundCommit RevFault) (steps : List Step) (id : List ℕ) → Reads w r
+    → (r >>= λ found. (steps_to w found steps >>= λ last. Ok last.id)) ≡ Ok id → NamesCommit w id
 found_read w (Ok found) steps id is e = last_read w (steps_to w found steps) id (steps_read w found steps (is found refl)) e
 found_read w (Err why) steps id is e = absurd cc
 
 behind_read : (w : World) (base : List ℕ) (steps : List Step) (id : List ℕ) → commit_behind w base steps ≡ Ok id → NamesCommit w id
 behind_read w base steps id e = found_read w (found_within 16 w base) steps id (within_read 16 w base) (unfold commit_behind in e)
 
-base_read : (w : World) (r : Result (List ℕ) RevFault) (steps : List Step) (id : List ℕ) → (r >>= λ base. commit_behind w base steps) ≡ Ok id → NamesCommit w id
+base_read : (w : World) (r : Result (List ℕ) RevFault) (steps : List Step) (id : List ℕ) → (r >>= λ base. commit_behind w base steps) ≡ Ok id
+    → NamesCommit w id
 base_read w (Ok base) steps id e = behind_read w base steps id e
 base_read w (Err why) steps id e = absurd cc
 
-said_read : (w : World) (r : Result Said RevFault) (base : Said → Result (List ℕ) RevFault) (id : List ℕ) → (r >>= λ rev. (base rev >>= λ b. commit_behind w b rev.steps)) ≡ Ok id → NamesCommit w id
+said_read : (w : World) (r : Result Said RevFault) (base : Said → Result (List ℕ) RevFault) (id : List ℕ)
+    → (r >>= λ rev. (base rev >>= λ b. commit_behind w b rev.steps)) ≡ Ok id → NamesCommit w id
 said_read w (Ok rev) base id e = base_read w (base rev) rev.steps id e
 said_read w (Err why) base id e = absurd cc
 

@@ -16,7 +16,8 @@ record Further (p : List ℕ) : Type 0 where
 
 least_second : (x : ℕ) → Second x (second_byte_min x)
 least_second x = record {
-  follow = (either (λ n. 128 ≤ n) (x == 224) 160 (cond (x == 240) 144 128) (λ e. omega arith) (λ e. either (λ n. 128 ≤ n) (x == 240) 144 128 (λ f. omega arith) (λ f. omega arith)), either (λ n. n < 192) (x == 224) 160 (cond (x == 240) 144 128) (λ e. omega arith) (λ e. either (λ n. n < 192) (x == 240) 144 128 (λ f. omega arith) (λ f. omega arith)));
+  follow =
+      (either (λ n. 128 ≤ n) (x == 224) 160 (cond (x == 240) 144 128) (λ e. omega arith) (λ e. either (λ n. 128 ≤ n) (x == 240) 144 128 (λ f. omega arith) (λ f. omega arith)), either (λ n. n < 192) (x == 224) 160 (cond (x == 240) 144 128) (λ e. omega arith) (λ e. either (λ n. n < 192) (x == 240) 144 128 (λ f. omega arith) (λ f. omega arith)));
   least_three = λ e. subst (λ (v : ℕ). 160 ≤ second_byte_min v) (sym e) (omega arith);
   no_surrogate = λ e. subst (λ (v : ℕ). second_byte_min v < 160) (sym e) (omega arith);
   least_four = λ e. subst (λ (v : ℕ). 144 ≤ second_byte_min v) (sym e) (omega arith);

@@ -69,11 +69,15 @@ two c l h = cond-false (nat_lt c 128) _ _ (le-ltb c 128 l) ∙ cond-true (nat_lt
 
 three : (c : ℕ) → 2048 ≤ c → c < 65536 → encode c ≡ (224 + c / 4096) ∷ next (c / 64) ∷ next c ∷ []
 unfolding encode
-three c l h = cond-false (nat_lt c 128) _ _ (le-ltb c 128 (omega arith)) ∙ cond-false (nat_lt c 2048) _ _ (le-ltb c 2048 l) ∙ cond-true (nat_lt c 65536) _ _ (lt-ltb c 65536 h)
+three c l h =
+    cond-false (nat_lt c 128) _ _ (le-ltb c 128 (omega arith)) ∙ cond-false (nat_lt c 2048) _ _ (le-ltb c 2048 l)
+    ∙ cond-true (nat_lt c 65536) _ _ (lt-ltb c 65536 h)
 
 four : (c : ℕ) → 65536 ≤ c → encode c ≡ (240 + c / 262144) ∷ next (c / 4096) ∷ next (c / 64) ∷ next c ∷ []
 unfolding encode
-four c l = cond-false (nat_lt c 128) _ _ (le-ltb c 128 (omega arith)) ∙ cond-false (nat_lt c 2048) _ _ (le-ltb c 2048 (omega arith)) ∙ cond-false (nat_lt c 65536) _ _ (le-ltb c 65536 l)
+four c l =
+    cond-false (nat_lt c 128) _ _ (le-ltb c 128 (omega arith)) ∙ cond-false (nat_lt c 2048) _ _ (le-ltb c 2048 (omega arith))
+    ∙ cond-false (nat_lt c 65536) _ _ (le-ltb c 65536 l)
 
 pub data Shape (c : ℕ) : Type 0 where
   of1 : c < 128 → encode c ≡ c ∷ [] → Shape c
@@ -109,7 +113,8 @@ shape c s = by (cases_lt c 128) (cases_lt c 2048) (cases_lt c 65536)
       least_four = λ e. absurd (omega arith);
       greatest = λ e. absurd (omega arith);
     }) (followed c) (three c l h)
-    by (inr _) (inr _) (inr l) = let most = top in of4 (240 + c / 262144) (next (c / 4096)) (next (c / 64)) (next c) (omega arith) (omega arith) (record {
+    by (inr _) (inr _) (inr l) =
+        let most = top in of4 (240 + c / 262144) (next (c / 4096)) (next (c / 64)) (next c) (omega arith) (omega arith) (record {
       follow = followed (c / 4096);
       least_three = λ e. absurd (omega arith);
       no_surrogate = λ e. absurd (omega arith);
@@ -163,10 +168,14 @@ pub two_size : (x : ℕ) → 128 ≤ x → x < 224 → char_size x ≡ 2
 two_size x l h = cond-false (nat_lt x 128) 1 _ (le-ltb x 128 l) ∙ cond-true (nat_lt x 224) 2 _ (lt-ltb x 224 h)
 
 pub three_size : (x : ℕ) → 224 ≤ x → x < 240 → char_size x ≡ 3
-three_size x l h = cond-false (nat_lt x 128) 1 _ (le-ltb x 128 (omega arith)) ∙ cond-false (nat_lt x 224) 2 _ (le-ltb x 224 l) ∙ cond-true (nat_lt x 240) 3 _ (lt-ltb x 240 h)
+three_size x l h =
+    cond-false (nat_lt x 128) 1 _ (le-ltb x 128 (omega arith)) ∙ cond-false (nat_lt x 224) 2 _ (le-ltb x 224 l)
+    ∙ cond-true (nat_lt x 240) 3 _ (lt-ltb x 240 h)
 
 four_size : (x : ℕ) → 240 ≤ x → char_size x ≡ 4
-four_size x l = cond-false (nat_lt x 128) 1 _ (le-ltb x 128 (omega arith)) ∙ cond-false (nat_lt x 224) 2 _ (le-ltb x 224 (omega arith)) ∙ cond-false (nat_lt x 240) 3 4 (le-ltb x 240 l)
+four_size x l =
+    cond-false (nat_lt x 128) 1 _ (le-ltb x 128 (omega arith)) ∙ cond-false (nat_lt x 224) 2 _ (le-ltb x 224 (omega arith))
+    ∙ cond-false (nat_lt x 240) 3 4 (le-ltb x 240 l)
 
 -- an open one has not so many bytes
 pub not_size : (n k x : ℕ) → (n == char_size x) ≡ false → char_size x ≡ k → n ≡ k → ⊥
@@ -179,7 +188,8 @@ lead_after b rest text = let f = first_char (b ∷ rest) (omega arith) text in a
     lead a l h e = or_right (nat_lt b 128) (is_lead b) (range_from 194 244 b (omega arith) (omega arith))
 
     at : (c : ℕ) (r : List ℕ) → Shape c → b ∷ rest ≡ encode c ++ r → begins_char (b ∷ []) ≡ true
-    at c r (of1 h is) e = let k : b ≡ c = nth 0 (b ∷ rest) (c ∷ r) (e ∙ ap (λ (l : List ℕ). l ++ r) is) in or_left (nat_lt b 128) (is_lead b) (lt-ltb b 128 (omega arith))
+    at c r (of1 h is) e =
+        let k : b ≡ c = nth 0 (b ∷ rest) (c ∷ r) (e ∙ ap (λ (l : List ℕ). l ++ r) is) in or_left (nat_lt b 128) (is_lead b) (lt-ltb b 128 (omega arith))
     at c r (of2 a y l h s is) e = lead a l (omega arith) (nth 0 (b ∷ rest) (a ∷ y ∷ r) (e ∙ ap (λ (l : List ℕ). l ++ r) is))
     at c r (of3 a y z l h s f is) e = lead a (omega arith) (omega arith) (nth 0 (b ∷ rest) (a ∷ y ∷ z ∷ r) (e ∙ ap (λ (l : List ℕ). l ++ r) is))
     at c r (of4 a y z w l h s f g is) e = lead a (omega arith) h (nth 0 (b ∷ rest) (a ∷ y ∷ z ∷ w ∷ r) (e ∙ ap (λ (l : List ℕ). l ++ r) is))
@@ -193,10 +203,17 @@ second_after x b rest broken text = let f = first_char (x ∷ b ∷ rest) (omega
         and_from (is_lead x) (is_second x b) (range_from 194 244 x (omega arith) (omega arith)) (second_from x b second)
 
     at : (c : ℕ) (r : List ℕ) → Shape c → x ∷ b ∷ rest ≡ encode c ++ r → begins_char (x ∷ b ∷ []) ≡ true
-    at c r (of1 h is) e = let k : x ≡ c = nth 0 (x ∷ b ∷ rest) (c ∷ r) (e ∙ ap (λ (l : List ℕ). l ++ r) is) in absurd (not_size 1 1 x broken.1 (low_size x (omega arith)) refl)
-    at c r (of2 a y l h s is) e = let k = e ∙ ap (λ (l : List ℕ). l ++ r) is in follow a y l (omega arith) s (nth 0 (x ∷ b ∷ rest) (a ∷ y ∷ r) k) (nth 1 (x ∷ b ∷ rest) (a ∷ y ∷ r) k)
-    at c r (of3 a y z l h s f is) e = let k = e ∙ ap (λ (l : List ℕ). l ++ r) is in follow a y (omega arith) (omega arith) s (nth 0 (x ∷ b ∷ rest) (a ∷ y ∷ z ∷ r) k) (nth 1 (x ∷ b ∷ rest) (a ∷ y ∷ z ∷ r) k)
-    at c r (of4 a y z w l h s f g is) e = let k = e ∙ ap (λ (l : List ℕ). l ++ r) is in follow a y (omega arith) h s (nth 0 (x ∷ b ∷ rest) (a ∷ y ∷ z ∷ w ∷ r) k) (nth 1 (x ∷ b ∷ rest) (a ∷ y ∷ z ∷ w ∷ r) k)
+    at c r (of1 h is) e =
+        let k : x ≡ c = nth 0 (x ∷ b ∷ rest) (c ∷ r) (e ∙ ap (λ (l : List ℕ). l ++ r) is) in absurd (not_size 1 1 x broken.1 (low_size x (omega arith)) refl)
+    at c r (of2 a y l h s is) e =
+        let k = e
+        ∙ ap (λ (l : List ℕ). l ++ r) is in follow a y l (omega arith) s (nth 0 (x ∷ b ∷ rest) (a ∷ y ∷ r) k) (nth 1 (x ∷ b ∷ rest) (a ∷ y ∷ r) k)
+    at c r (of3 a y z l h s f is) e =
+        let k = e
+        ∙ ap (λ (l : List ℕ). l ++ r) is in follow a y (omega arith) (omega arith) s (nth 0 (x ∷ b ∷ rest) (a ∷ y ∷ z ∷ r) k) (nth 1 (x ∷ b ∷ rest) (a ∷ y ∷ z ∷ r) k)
+    at c r (of4 a y z w l h s f g is) e =
+        let k = e
+        ∙ ap (λ (l : List ℕ). l ++ r) is in follow a y (omega arith) h s (nth 0 (x ∷ b ∷ rest) (a ∷ y ∷ z ∷ w ∷ r) k) (nth 1 (x ∷ b ∷ rest) (a ∷ y ∷ z ∷ w ∷ r) k)
 
 third_after : (x y b : ℕ) (rest : List ℕ) → IsOpen (x ∷ y ∷ []) → IsUtf8 (x ∷ y ∷ b ∷ rest) → begins_char (x ∷ y ∷ b ∷ []) ≡ true
 third_after x y b rest broken text = let f = first_char (x ∷ y ∷ b ∷ rest) (omega arith) text in at f.0 f.1 f.2 f.3
@@ -213,10 +230,16 @@ third_after x y b rest broken text = let f = first_char (x ∷ y ∷ b ∷ rest)
         and_from (is_in_range 224 244 x && is_second x y) (follows b) (and_from (is_in_range 224 244 x) (is_second x y) (range_from 224 244 x (omega arith) most) both.1) (follow_from b (subst Follows (sym g) f))
 
     at : (c : ℕ) (r : List ℕ) → Shape c → x ∷ y ∷ b ∷ rest ≡ encode c ++ r → begins_char (x ∷ y ∷ b ∷ []) ≡ true
-    at c r (of1 h is) e = let k : x ≡ c = nth 0 (x ∷ y ∷ b ∷ rest) (c ∷ r) (e ∙ ap (λ (l : List ℕ). l ++ r) is) in let least = lead.0 in absurd (omega arith)
-    at c r (of2 a d l h s is) e = let k : x ≡ a = nth 0 (x ∷ y ∷ b ∷ rest) (a ∷ d ∷ r) (e ∙ ap (λ (l : List ℕ). l ++ r) is) in absurd (not_size 2 2 x broken.1 (two_size x (omega arith) (omega arith)) refl)
-    at c r (of3 a d z l h s f is) e = let k = e ∙ ap (λ (l : List ℕ). l ++ r) is in follow a z l f (nth 0 (x ∷ y ∷ b ∷ rest) (a ∷ d ∷ z ∷ r) k) (nth 2 (x ∷ y ∷ b ∷ rest) (a ∷ d ∷ z ∷ r) k)
-    at c r (of4 a d z w l h s f g is) e = let k = e ∙ ap (λ (l : List ℕ). l ++ r) is in follow a z (omega arith) f (nth 0 (x ∷ y ∷ b ∷ rest) (a ∷ d ∷ z ∷ w ∷ r) k) (nth 2 (x ∷ y ∷ b ∷ rest) (a ∷ d ∷ z ∷ w ∷ r) k)
+    at c r (of1 h is) e =
+        let k : x ≡ c = nth 0 (x ∷ y ∷ b ∷ rest) (c ∷ r) (e ∙ ap (λ (l : List ℕ). l ++ r) is) in let least = lead.0 in absurd (omega arith)
+    at c r (of2 a d l h s is) e =
+        let k : x ≡ a = nth 0 (x ∷ y ∷ b ∷ rest) (a ∷ d ∷ r) (e ∙ ap (λ (l : List ℕ). l ++ r) is) in absurd (not_size 2 2 x broken.1 (two_size x (omega arith) (omega arith)) refl)
+    at c r (of3 a d z l h s f is) e =
+        let k = e
+        ∙ ap (λ (l : List ℕ). l ++ r) is in follow a z l f (nth 0 (x ∷ y ∷ b ∷ rest) (a ∷ d ∷ z ∷ r) k) (nth 2 (x ∷ y ∷ b ∷ rest) (a ∷ d ∷ z ∷ r) k)
+    at c r (of4 a d z w l h s f g is) e =
+        let k = e
+        ∙ ap (λ (l : List ℕ). l ++ r) is in follow a z (omega arith) f (nth 0 (x ∷ y ∷ b ∷ rest) (a ∷ d ∷ z ∷ w ∷ r) k) (nth 2 (x ∷ y ∷ b ∷ rest) (a ∷ d ∷ z ∷ w ∷ r) k)
 
 -- three bytes that begin a character
 pub three_parts : (x y z : ℕ) → begins_char (x ∷ y ∷ z ∷ []) ≡ true → (224 ≤ x) × (x ≤ 244) × Second x y × Follows z
@@ -227,7 +250,8 @@ three_parts x y z h =
     (lead.0, lead.1, second_parts x y one.1, follow_parts z two.1)
 
 pub three_from : (x y z : ℕ) → 224 ≤ x → x ≤ 244 → Second x y → Follows z → begins_char (x ∷ y ∷ z ∷ []) ≡ true
-three_from x y z l h s f = and_from (is_in_range 224 244 x && is_second x y) (follows z) (and_from (is_in_range 224 244 x) (is_second x y) (range_from 224 244 x l h) (second_from x y s)) (follow_from z f)
+three_from x y z l h s f =
+    and_from (is_in_range 224 244 x && is_second x y) (follows z) (and_from (is_in_range 224 244 x) (is_second x y) (range_from 224 244 x l h) (second_from x y s)) (follow_from z f)
 
 four_parts : (x y z w : ℕ) → begins_char (x ∷ y ∷ z ∷ w ∷ []) ≡ true → (240 ≤ x) × (x ≤ 244) × Second x y × Follows z × Follows w
 four_parts x y z w h =
@@ -249,9 +273,12 @@ fourth_after x y z b rest broken text = let f = first_char (x ∷ y ∷ z ∷ b 
     was = three_parts x y z broken.0
 
     at : (c : ℕ) (r : List ℕ) → Shape c → x ∷ y ∷ z ∷ b ∷ rest ≡ encode c ++ r → begins_char (x ∷ y ∷ z ∷ b ∷ []) ≡ true
-    at c r (of1 h is) e = let k : x ≡ c = nth 0 (x ∷ y ∷ z ∷ b ∷ rest) (c ∷ r) (e ∙ ap (λ (l : List ℕ). l ++ r) is) in let least = was.0 in absurd (omega arith)
-    at c r (of2 a d l h s is) e = let k : x ≡ a = nth 0 (x ∷ y ∷ z ∷ b ∷ rest) (a ∷ d ∷ r) (e ∙ ap (λ (l : List ℕ). l ++ r) is) in let least = was.0 in absurd (omega arith)
-    at c r (of3 a d v l h s f is) e = let k : x ≡ a = nth 0 (x ∷ y ∷ z ∷ b ∷ rest) (a ∷ d ∷ v ∷ r) (e ∙ ap (λ (l : List ℕ). l ++ r) is) in absurd (not_size 3 3 x broken.1 (three_size x (omega arith) (omega arith)) refl)
+    at c r (of1 h is) e =
+        let k : x ≡ c = nth 0 (x ∷ y ∷ z ∷ b ∷ rest) (c ∷ r) (e ∙ ap (λ (l : List ℕ). l ++ r) is) in let least = was.0 in absurd (omega arith)
+    at c r (of2 a d l h s is) e =
+        let k : x ≡ a = nth 0 (x ∷ y ∷ z ∷ b ∷ rest) (a ∷ d ∷ r) (e ∙ ap (λ (l : List ℕ). l ++ r) is) in let least = was.0 in absurd (omega arith)
+    at c r (of3 a d v l h s f is) e =
+        let k : x ≡ a = nth 0 (x ∷ y ∷ z ∷ b ∷ rest) (a ∷ d ∷ v ∷ r) (e ∙ ap (λ (l : List ℕ). l ++ r) is) in absurd (not_size 3 3 x broken.1 (three_size x (omega arith) (omega arith)) refl)
     at c r (of4 a d v w l h s f g is) e =
         let k = e ∙ ap (λ (l : List ℕ). l ++ r) is in
         let first : x ≡ a = nth 0 (x ∷ y ∷ z ∷ b ∷ rest) (a ∷ d ∷ v ∷ w ∷ r) k in
@@ -280,7 +307,9 @@ spelled : (c : ℕ) (p : List ℕ) → scalar c ≡ true → p ≡ encode c → 
 spelled c p s e = subst IsUtf8 (sym e) (IsUtf8-encode c s)
 
 high_scalar : (c : ℕ) → 57344 ≤ c → c < 1114112 → scalar c ≡ true
-high_scalar c l h = cond-false (nat_lt c 55296) true _ (le-ltb c 55296 (omega arith)) ∙ and_from (nat_le 57344 c) (nat_lt c 1114112) (le-leb 57344 c l) (lt-ltb c 1114112 h)
+high_scalar c l h =
+    cond-false (nat_lt c 55296) true _ (le-ltb c 55296 (omega arith))
+    ∙ and_from (nat_le 57344 c) (nat_lt c 1114112) (le-leb 57344 c l) (lt-ltb c 1114112 h)
 
 whole_one : (x : ℕ) → x < 128 → IsUtf8 (x ∷ [])
 whole_one x h = spelled x (x ∷ []) (low_scalar x (omega arith)) (sym (one x h))

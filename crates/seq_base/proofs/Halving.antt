@@ -37,18 +37,21 @@ rises es path map i j d le within = elim (cases_lt i j) [
   | inr ge ↦ let same : i ≡ j = omega arith in subst (λ (k : ℕ). ordering_index (order_by path (get_or es i d)) ≤ ordering_index (order_by path (get_or es k d))) same (omega arith)
 ]
 
-pub found_at : (es : List (List ℕ × Entry)) (path : List ℕ) (n : ℕ) (e : List ℕ × Entry) → IsPathMap es → n < length es → e ≡ get_or es n e → HoldsAt (λ d. order_by path d ≡ Equal) es n → Some e.1 ≡ entry_at es path
+pub found_at : (es : List (List ℕ × Entry)) (path : List ℕ) (n : ℕ) (e : List ℕ × Entry) → IsPathMap es → n < length es → e ≡ get_or es n e
+    → HoldsAt (λ d. order_by path d ≡ Equal) es n → Some e.1 ≡ entry_at es path
 found_at es path n e map lt is found =
     let same : e.0 ≡ path = ap (λ (d : List ℕ × Entry). d.0) is ∙ exact_bytes (get_or es n e).0 path (found e) in
     sym ((held es map e.0 e.1).1 (n, lt, sym is)) ∙ ap (entry_at es) same
 
-none_at : (es : List (List ℕ × Entry)) (path : List ℕ) → ((k : ℕ) (d : List ℕ × Entry) → k < length es → bytes_eq (get_or es k d).0 path ≡ false) → entry_at es path ≡ None
+none_at : (es : List (List ℕ × Entry)) (path : List ℕ) → ((k : ℕ) (d : List ℕ × Entry) → k < length es → bytes_eq (get_or es k d).0 path ≡ false)
+    → entry_at es path ≡ None
 none_at [] path apart = refl
 none_at (e ∷ es) path apart =
     let here : bytes_eq e.0 path ≡ false = apart 0 e (omega arith) in
     rw here (none_at es path (λ k d within. apart (suc k) d (omega arith)))
 
-pub missing_at : (es : List (List ℕ × Entry)) (path : List ℕ) (n : ℕ) → IsPartitionPoint (λ d. order_by path d ≡ Less) (λ d. order_by path d ≡ Greater) es n → None ≡ entry_at es path
+pub missing_at : (es : List (List ℕ × Entry)) (path : List ℕ) (n : ℕ)
+    → IsPartitionPoint (λ d. order_by path d ≡ Less) (λ d. order_by path d ≡ Greater) es n → None ≡ entry_at es path
 missing_at es path n parted = sym (none_at es path (λ k d within. elim (cases_lt k n) [
   | inl lt ↦ sym (is_eq-slice_cmp (get_or es k d).0 path) ∙ ap is_eq (parted.0 k d (omega arith) lt)
   | inr ge ↦ sym (is_eq-slice_cmp (get_or es k d).0 path) ∙ ap is_eq (parted.1 k d ge within)

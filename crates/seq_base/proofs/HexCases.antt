@@ -27,7 +27,8 @@ some_from_unwrap None d lt e = absurd (omega arith)
 small : (c v : ℕ) → hex_digit_value c ≡ Some v → v < 16
 small c v h = grind arith
 
-shown : (o : Option ℕ) (v l : ℕ) → (not (is_some o) || slice_index lower_digits (unwrap_or o 99) == l) ≡ true → o ≡ Some v → l ≡ slice_index lower_digits v
+shown : (o : Option ℕ) (v l : ℕ) → (not (is_some o) || slice_index lower_digits (unwrap_or o 99) == l) ≡ true → o ≡ Some v
+    → l ≡ slice_index lower_digits v
 shown (Some u) v l h is =
     let same : u ≡ v = ap (λ (o : Option ℕ). unwrap_or o 99) is in
     sym (eqb-true (slice_index lower_digits u) l h) ∙ ap (slice_index lower_digits) same
@@ -100,7 +101,8 @@ decodes i (a ∷ b ∷ rest) (x ∷ bytes) small_text small_bytes h =
     rw (high_is, low_is, later, whole) refl
 
 -- text spells an id exactly where it is its hex, in either case
-pub spells_in_either_case : (id text : List ℕ) → IsBytes id → length id ≡ 20 → IsBytes text → SpellsId id text ↔ (map to_ascii_lowercase text ≡ encode_lower id)
+pub spells_in_either_case : (id text : List ℕ) → IsBytes id → length id ≡ 20 → IsBytes text
+    → SpellsId id text ↔ (map to_ascii_lowercase text ≡ encode_lower id)
 spells_in_either_case id text small_id twenty small_text = (
   λ s.
       let forty = s.forty in

@@ -29,7 +29,8 @@ pub put_found : (es : List (List ℕ × Entry)) (path : List ℕ) (entry : Entry
 put_found [] path entry = rw (same path) refl
 put_found (e ∷ es) path entry = at (put_found es path entry) (bytes_eq e.0 path) refl (is_less path e.0)
   where
-    at : entry_at (put es path entry) path ≡ Some entry → (t : Bool) → bytes_eq e.0 path ≡ t → (u : Bool) → entry_at (cond t ((path, entry) ∷ es) (cond u ((path, entry) ∷ e ∷ es) (e ∷ put es path entry))) path ≡ Some entry
+    at : entry_at (put es path entry) path ≡ Some entry → (t : Bool) → bytes_eq e.0 path ≡ t → (u : Bool)
+        → entry_at (cond t ((path, entry) ∷ es) (cond u ((path, entry) ∷ e ∷ es) (e ∷ put es path entry))) path ≡ Some entry
     at later true is u = rw (same path) refl
     at later false is true = rw (same path) refl
     at later false is false = rw is later
@@ -38,7 +39,8 @@ pub put_others : (es : List (List ℕ × Entry)) (path : List ℕ) (entry : Entr
 put_others [] path entry q ne = rw (other path q ne) refl
 put_others (e ∷ es) path entry q ne = at (put_others es path entry q ne) (bytes_eq e.0 path) refl (is_less path e.0)
   where
-    at : entry_at (put es path entry) q ≡ entry_at es q → (t : Bool) → bytes_eq e.0 path ≡ t → (u : Bool) → entry_at (cond t ((path, entry) ∷ es) (cond u ((path, entry) ∷ e ∷ es) (e ∷ put es path entry))) q ≡ cond (bytes_eq e.0 q) (Some e.1) (entry_at es q)
+    at : entry_at (put es path entry) q ≡ entry_at es q → (t : Bool) → bytes_eq e.0 path ≡ t → (u : Bool)
+        → entry_at (cond t ((path, entry) ∷ es) (cond u ((path, entry) ∷ e ∷ es) (e ∷ put es path entry))) q ≡ cond (bytes_eq e.0 q) (Some e.1) (entry_at es q)
     at later true is u =
         let here : e.0 ≡ path = (bytes_eq-Decides e.0 path).0 is in
         rw (other path q ne, other e.0 q (λ k. ne (k ∙ here))) refl
@@ -53,7 +55,8 @@ not_less_itself a h = let k = ap is_lt (itself a) in cc
 
 held_from : (es : List (List ℕ × Entry)) (path : List ℕ) (entry : Entry) → entry_at es path ≡ Some entry → Contains es (path, entry)
 held_from [] path entry h = absurd cc
-held_from (e ∷ es) path entry h = elim (bytes_eq e.0 path) as (λ t. bytes_eq e.0 path ≡ t → cond t (Some e.1) (entry_at es path) ≡ Some entry → Contains (e ∷ es) (path, entry)) [
+held_from (e ∷ es) path entry h =
+    elim (bytes_eq e.0 path) as (λ t. bytes_eq e.0 path ≡ t → cond t (Some e.1) (entry_at es path) ≡ Some entry → Contains (e ∷ es) (path, entry)) [
   | true ↦ λ is now.
       let here : e.0 ≡ path = (bytes_eq-Decides e.0 path).0 is in
       let value : e.1 ≡ entry = cc in
@@ -68,7 +71,8 @@ held_at : (es : List (List ℕ × Entry)) → IsAscending es → (path : List �
 held_at [] up path entry there = let no = there.1 in absurd (omega arith)
 held_at (e ∷ es) up path entry there = at (held_at es up.1 path entry) there.0 there.1 there.2
   where
-    at : (Contains es (path, entry) → entry_at es path ≡ Some entry) → (k : ℕ) → k < length (e ∷ es) → slice_index_or (e ∷ es) k (path, entry) ≡ (path, entry) → entry_at (e ∷ es) path ≡ Some entry
+    at : (Contains es (path, entry) → entry_at es path ≡ Some entry) → (k : ℕ) → k < length (e ∷ es)
+        → slice_index_or (e ∷ es) k (path, entry) ≡ (path, entry) → entry_at (e ∷ es) path ≡ Some entry
     at later zero lt is =
         let here : e.0 ≡ path = ap (λ (d : List ℕ × Entry). d.0) is in
         let value : e.1 ≡ entry = ap (λ (d : List ℕ × Entry). d.1) is in

@@ -51,12 +51,14 @@ module _ (P : List ℕ → Type 0) (path : List ℕ) (entry : Entry) where
   all_put [] h p = (p, tt)
   all_put (e ∷ es) h p = at (all_put es h.1 p) (bytes_eq e.0 path) (is_less path e.0)
     where
-      at : AllByRecursion (λ d. P d.0) (put es path entry) → (t u : Bool) → AllByRecursion (λ d. P d.0) (cond t ((path, entry) ∷ es) (cond u ((path, entry) ∷ e ∷ es) (e ∷ put es path entry)))
+      at : AllByRecursion (λ d. P d.0) (put es path entry) → (t u : Bool)
+          → AllByRecursion (λ d. P d.0) (cond t ((path, entry) ∷ es) (cond u ((path, entry) ∷ e ∷ es) (e ∷ put es path entry)))
       at later true u = (p, h.1)
       at later false true = (p, h)
       at later false false = (h.0, later)
 
-all_less : (path : List ℕ) (e : List ℕ) (es : List (List ℕ × Entry)) → is_less path e ≡ true → AllByRecursion (λ d. is_less e d.0 ≡ true) es → AllByRecursion (λ d. is_less path d.0 ≡ true) es
+all_less : (path : List ℕ) (e : List ℕ) (es : List (List ℕ × Entry)) → is_less path e ≡ true → AllByRecursion (λ d. is_less e d.0 ≡ true) es
+    → AllByRecursion (λ d. is_less path d.0 ≡ true) es
 all_less path e [] p h = tt
 all_less path e (d ∷ es) p h = (less_trans path e d.0 p h.0, all_less path e es p h.1)
 
@@ -64,7 +66,8 @@ put_ascending : (path : List ℕ) (entry : Entry) (es : List (List ℕ × Entry)
 put_ascending path entry [] h = (tt, tt)
 put_ascending path entry (e ∷ es) h = at (put_ascending path entry es h.1) (bytes_eq e.0 path) refl (is_less path e.0) refl
   where
-    at : IsAscending (put es path entry) → (t : Bool) → bytes_eq e.0 path ≡ t → (u : Bool) → is_less path e.0 ≡ u → IsAscending (cond t ((path, entry) ∷ es) (cond u ((path, entry) ∷ e ∷ es) (e ∷ put es path entry)))
+    at : IsAscending (put es path entry) → (t : Bool) → bytes_eq e.0 path ≡ t → (u : Bool) → is_less path e.0 ≡ u
+        → IsAscending (cond t ((path, entry) ∷ es) (cond u ((path, entry) ∷ e ∷ es) (e ∷ put es path entry)))
     at later true is u u-is = (subst (λ (p : List ℕ). AllByRecursion (λ d. is_less p d.0 ≡ true) es) ((bytes_eq-Decides e.0 path).0 is) h.0, h.1)
     at later false is true u-is = ((u-is, all_less path e.0 es u-is h.0), h)
     at later false is false u-is = (all_put (λ p. is_less e.0 p ≡ true) path entry es h.0 (otherwise_less e.0 path is u-is), later)
@@ -82,15 +85,18 @@ none_clash : (path : List ℕ) (es : List (List ℕ × Entry)) → first_clash e
 none_clash path [] e = tt
 none_clash path (d ∷ es) e = at (none_clash path es) (clashes d.0 path) refl e
   where
-    at : (first_clash es path ≡ None → AllByRecursion (λ d. clashes path d.0 ≡ false) es) → (t : Bool) → clashes d.0 path ≡ t → cond t (Some d.0) (first_clash es path) ≡ None → (clashes path d.0 ≡ false) × AllByRecursion (λ d. clashes path d.0 ≡ false) es
+    at : (first_clash es path ≡ None → AllByRecursion (λ d. clashes path d.0 ≡ false) es) → (t : Bool) → clashes d.0 path ≡ t
+        → cond t (Some d.0) (first_clash es path) ≡ None → (clashes path d.0 ≡ false) × AllByRecursion (λ d. clashes path d.0 ≡ false) es
     at later true is e = absurd cc
     at later false is e = (clashes_back d.0 path is, later e)
 
-put_apart : (path : List ℕ) (entry : Entry) (es : List (List ℕ × Entry)) → AllByRecursion (λ d. clashes path d.0 ≡ false) es → AreApart es → AreApart (put es path entry)
+put_apart : (path : List ℕ) (entry : Entry) (es : List (List ℕ × Entry)) → AllByRecursion (λ d. clashes path d.0 ≡ false) es → AreApart es
+    → AreApart (put es path entry)
 put_apart path entry [] n h = (tt, tt)
 put_apart path entry (e ∷ es) n h = at (put_apart path entry es n.1 h.1) (bytes_eq e.0 path) (is_less path e.0)
   where
-    at : AreApart (put es path entry) → (t u : Bool) → AreApart (cond t ((path, entry) ∷ es) (cond u ((path, entry) ∷ e ∷ es) (e ∷ put es path entry)))
+    at : AreApart (put es path entry) → (t u : Bool)
+        → AreApart (cond t ((path, entry) ∷ es) (cond u ((path, entry) ∷ e ∷ es) (e ∷ put es path entry)))
     at later true u = (n.1, h.1)
     at later false true = (n, h)
     at later false false = (all_put (λ p. clashes e.0 p ≡ false) path entry es h.0 (clashes_back path e.0 n.0), later)
@@ -100,10 +106,13 @@ module _ (path : List ℕ) (entry : Entry) where
   put_files [] h p = (p, tt)
   put_files (e ∷ es) h p = at (put_files es h.1 p) (bytes_eq e.0 path) (is_less path e.0)
     where
-      at : HoldsFiles (put es path entry) → (t u : Bool) → HoldsFiles (cond t ((path, entry) ∷ es) (cond u ((path, entry) ∷ e ∷ es) (e ∷ put es path entry)))
+      at : HoldsFiles (put es path entry) → (t u : Bool)
+          → HoldsFiles (cond t ((path, entry) ∷ es) (cond u ((path, entry) ∷ e ∷ es) (e ∷ put es path entry)))
       at later true u = (p, h.1)
       at later false true = (p, h)
       at later false false = (h.0, later)
 
-pub put_stays : (path : List ℕ) (entry : Entry) (es : List (List ℕ × Entry)) → IsPathMap es → (entry.mode ≡ Folder → ⊥) → first_clash es path ≡ None → IsPathMap (put es path entry)
-put_stays path entry es h file none = record { ascending = put_ascending path entry es h.ascending; apart = put_apart path entry es (none_clash path es none) h.apart; files = put_files path entry es h.files file }
+pub put_stays : (path : List ℕ) (entry : Entry) (es : List (List ℕ × Entry)) → IsPathMap es → (entry.mode ≡ Folder → ⊥) → first_clash es path ≡ None
+    → IsPathMap (put es path entry)
+put_stays path entry es h file none =
+    record { ascending = put_ascending path entry es h.ascending; apart = put_apart path entry es (none_clash path es none) h.apart; files = put_files path entry es h.files file }

@@ -41,7 +41,8 @@ no_slash : (b : ℕ) → is_digit b ≡ true → (b == 47) ≡ false
 no_slash b h = grind arith
 
 one_part : (digits : List ℕ) → list_all is_digit digits ≡ true → parts digits ≡ digits ∷ []
-one_part digits h = slice_split_none (λ b. b == 47) digits (All-weaker (λ b. is_digit b ≡ true) (λ b. (b == 47) ≡ false) no_slash digits (AllPass-from_list_all is_digit digits h))
+one_part digits h =
+    slice_split_none (λ b. b == 47) digits (All-weaker (λ b. is_digit b ≡ true) (λ b. (b == 47) ≡ false) no_slash digits (AllPass-from_list_all is_digit digits h))
 
 -- the parts of an object's path, the last two of them digits
 record HasObjectParts (id : List ℕ) : Type 0 where
@@ -83,7 +84,8 @@ no_nul b h = grind arith
 ascii_digit : (b : ℕ) → is_digit b ≡ true → is_ascii b ≡ true
 ascii_digit b h = grind (arith, nat_tests)
 
-all_so : (test : ℕ → Bool) → ((b : ℕ) → is_digit b ≡ true → test b ≡ true) → (digits : List ℕ) → list_all is_digit digits ≡ true → list_all test digits ≡ true
+all_so : (test : ℕ → Bool) → ((b : ℕ) → is_digit b ≡ true → test b ≡ true) → (digits : List ℕ) → list_all is_digit digits ≡ true
+    → list_all test digits ≡ true
 all_so test so [] h = refl
 all_so test so (d ∷ digits) h =
     let both = and_parts (is_digit d) (list_all is_digit digits) h in

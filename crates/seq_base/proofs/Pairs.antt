@@ -27,21 +27,26 @@ last-before (x ∷ y ∷ bytes) b some =
     ap (λ (k : ℕ). get_or (x ∷ (y ∷ bytes ++ b ∷ [])) k 0) n ∙ last-before (y ∷ bytes) b (omega arith)
 
 pub at-last : (bytes : List ℕ) (b : ℕ) → get_or (bytes ++ b ∷ []) (length (bytes ++ b ∷ []) - 1) 0 ≡ b
-at-last bytes b = let n : length (bytes ++ b ∷ []) - 1 ≡ length bytes = omega (arith, length-append bytes (b ∷ [])) in ap (λ (k : ℕ). get_or (bytes ++ b ∷ []) k 0) n ∙ at bytes
+at-last bytes b =
+    let n : length (bytes ++ b ∷ []) - 1 ≡ length bytes = omega (arith, length-append bytes (b ∷ [])) in ap (λ (k : ℕ). get_or (bytes ++ b ∷ []) k 0) n
+    ∙ at bytes
   where
     at : (xs : List ℕ) → get_or (xs ++ b ∷ []) (length xs) 0 ≡ b
     at [] = refl
     at (x ∷ xs) = at xs
 
 -- one byte more
-pub pair-push : (x y : ℕ) (bytes : List ℕ) (b : ℕ) → 0 < length bytes → has_pair x y (bytes ++ b ∷ []) ≡ (has_pair x y bytes || (last_of bytes == x && b == y))
+pub pair-push : (x y : ℕ) (bytes : List ℕ) (b : ℕ) → 0 < length bytes
+    → has_pair x y (bytes ++ b ∷ []) ≡ (has_pair x y bytes || (last_of bytes == x && b == y))
 pair-push x y [] b some = absurd (omega arith)
 pair-push x y (c ∷ []) b some = or_false (c == x && b == y)
   where
     or_false : (t : Bool) → (t || false) ≡ t
     or_false true = refl
     or_false false = refl
-pair-push x y (c ∷ d ∷ bytes) b some = ap (λ (t : Bool). (c == x && d == y) || t) (pair-push x y (d ∷ bytes) b (omega arith)) ∙ or-assoc (c == x && d == y) (has_pair x y (d ∷ bytes)) (last_of (d ∷ bytes) == x && b == y)
+pair-push x y (c ∷ d ∷ bytes) b some =
+    ap (λ (t : Bool). (c == x && d == y) || t) (pair-push x y (d ∷ bytes) b (omega arith))
+    ∙ or-assoc (c == x && d == y) (has_pair x y (d ∷ bytes)) (last_of (d ∷ bytes) == x && b == y)
   where
     or-assoc : (p q r : Bool) → (p || (q || r)) ≡ ((p || q) || r)
     or-assoc true q r = refl
@@ -56,7 +61,8 @@ pair-front x y (c ∷ d ∷ front) back h =
     or_from (c == x && d == y) (has_pair x y (d ∷ front)) both.0 (pair-front x y (d ∷ front) back both.1)
 
 -- bytes that are not the second of a pair
-pub pair-append : (x y : ℕ) (front back : List ℕ) → 0 < length front → has_pair x y front ≡ false → list_all (λ b. not (b == y)) back ≡ true → has_pair x y (front ++ back) ≡ false
+pub pair-append : (x y : ℕ) (front back : List ℕ) → 0 < length front → has_pair x y front ≡ false → list_all (λ b. not (b == y)) back ≡ true
+    → has_pair x y (front ++ back) ≡ false
 pair-append x y front [] some h free = subst (λ (l : List ℕ). has_pair x y l ≡ false) (sym (nil front)) h
   where
     nil : (l : List ℕ) → l ++ [] ≡ l

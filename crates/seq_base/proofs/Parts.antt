@@ -36,7 +36,8 @@ pub record Met (bytes : List ℕ) (start i : ℕ) : Type 0 where
 pub met_none : (bytes : List ℕ) → Met bytes 0 0
 met_none bytes = record { within = omega arith; same = ap (first_bad 0) (onto_none bytes) }
 
-seen_more : (bytes : List ℕ) (start i : ℕ) → start ≤ i → i < length bytes → seen_of bytes start (i + 1) ≡ seen_of bytes start i ++ get_or bytes i 0 ∷ []
+seen_more : (bytes : List ℕ) (start i : ℕ) → start ≤ i → i < length bytes
+    → seen_of bytes start (i + 1) ≡ seen_of bytes start i ++ get_or bytes i 0 ∷ []
 seen_more bytes start i le lt =
     let k : i + 1 - start ≡ (i - start) + 1 = omega arith in
     let at : get_or (drop start bytes) (i - start) 0 ≡ get_or bytes i 0 = get_or-drop start bytes (i - start) 0 ∙ ap (λ (n : ℕ). get_or bytes n 0) (let n : start + (i - start) ≡ i = omega arith in n) in
@@ -51,7 +52,8 @@ met_more bytes start i lt ne m =
     record { within = omega arith; same = ap (first_bad start) (sym one) ∙ m.same }
 
 -- at a slash
-ended : (bytes : List ℕ) (start i : ℕ) → i < length bytes → get_or bytes i 0 ≡ 47 → onto (seen_of bytes start i) (parts (drop i bytes)) ≡ seen_of bytes start i ∷ parts (drop (i + 1) bytes)
+ended : (bytes : List ℕ) (start i : ℕ) → i < length bytes → get_or bytes i 0 ≡ 47
+    → onto (seen_of bytes start i) (parts (drop i bytes)) ≡ seen_of bytes start i ∷ parts (drop (i + 1) bytes)
 ended bytes start i lt eq =
     let cut : parts (drop i bytes) ≡ [] ∷ parts (drop (i + 1) bytes) = ap parts (drop_more bytes i 0 lt) ∙ rw (eq-eqb (get_or bytes i 0) 47 eq) refl in
     ap (onto (seen_of bytes start i)) cut ∙ ap (λ (t : List ℕ). t ∷ parts (drop (i + 1) bytes)) (append-nil (seen_of bytes start i))
@@ -59,7 +61,8 @@ ended bytes start i lt eq =
 length-seen : (bytes : List ℕ) (start i : ℕ) → start ≤ i → i ≤ length bytes → length (seen_of bytes start i) ≡ i - start
 length-seen bytes start i le lt = omega (arith, length-take (i - start) (drop start bytes), length-drop start bytes)
 
-pub met_slash : (bytes : List ℕ) (start i : ℕ) → i < length bytes → get_or bytes i 0 ≡ 47 → is_part (seen_of bytes start i) ≡ true → Met bytes start i → Met bytes (i + 1) (i + 1)
+pub met_slash : (bytes : List ℕ) (start i : ℕ) → i < length bytes → get_or bytes i 0 ≡ 47 → is_part (seen_of bytes start i) ≡ true → Met bytes start i
+    → Met bytes (i + 1) (i + 1)
 met_slash bytes start i lt eq good m =
     let le = m.within in
     let k : i + 1 - (i + 1) ≡ 0 = omega arith in
@@ -67,15 +70,19 @@ met_slash bytes start i lt eq good m =
     let step : first_bad start (seen_of bytes start i ∷ parts (drop (i + 1) bytes)) ≡ first_bad (i + 1) (parts (drop (i + 1) bytes)) = rw good (ap (λ (a : ℕ). first_bad a (parts (drop (i + 1) bytes))) n) in
     record {
       within = omega arith;
-      same = ap (λ (j : ℕ). first_bad (i + 1) (onto (take j (drop (i + 1) bytes)) (parts (drop (i + 1) bytes)))) k ∙ ap (first_bad (i + 1)) (onto_none (drop (i + 1) bytes)) ∙ sym step ∙ ap (first_bad start) (sym (ended bytes start i lt eq)) ∙ m.same;
+      same =
+          ap (λ (j : ℕ). first_bad (i + 1) (onto (take j (drop (i + 1) bytes)) (parts (drop (i + 1) bytes)))) k
+          ∙ ap (first_bad (i + 1)) (onto_none (drop (i + 1) bytes)) ∙ sym step ∙ ap (first_bad start) (sym (ended bytes start i lt eq)) ∙ m.same;
     }
 
-pub met_bad : (bytes : List ℕ) (start i : ℕ) → i < length bytes → get_or bytes i 0 ≡ 47 → is_part (seen_of bytes start i) ≡ false → Met bytes start i → first_bad 0 (parts bytes) ≡ Some start
+pub met_bad : (bytes : List ℕ) (start i : ℕ) → i < length bytes → get_or bytes i 0 ≡ 47 → is_part (seen_of bytes start i) ≡ false → Met bytes start i
+    → first_bad 0 (parts bytes) ≡ Some start
 met_bad bytes start i lt eq bad m =
     let step : first_bad start (seen_of bytes start i ∷ parts (drop (i + 1) bytes)) ≡ Some start = rw bad refl in
     sym m.same ∙ ap (first_bad start) (ended bytes start i lt eq) ∙ step
 
-pub met_last : (bytes : List ℕ) (start i : ℕ) → length bytes ≤ i → (t : Bool) → is_part (seen_of bytes start i) ≡ t → Met bytes start i → first_bad 0 (parts bytes) ≡ cond t None (Some start)
+pub met_last : (bytes : List ℕ) (start i : ℕ) → length bytes ≤ i → (t : Bool) → is_part (seen_of bytes start i) ≡ t → Met bytes start i
+    → first_bad 0 (parts bytes) ≡ cond t None (Some start)
 met_last bytes start i le t is m =
     let cut : parts (drop i bytes) ≡ [] ∷ [] = ap parts (drop_all i bytes le) in
     let one : onto (seen_of bytes start i) (parts (drop i bytes)) ≡ seen_of bytes start i ∷ [] = ap (onto (seen_of bytes start i)) cut ∙ ap (λ (s : List ℕ). s ∷ []) (append-nil (seen_of bytes start i)) in

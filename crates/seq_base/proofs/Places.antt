@@ -28,7 +28,8 @@ parts-behind (b ∷ f) rest = at (parts-behind f rest) (b == 47)
     onto [] qs some = absurd (omega arith)
     onto (p ∷ ps) qs some = refl
 
-    at : parts (f ++ 47 ∷ rest) ≡ parts f ++ parts rest → (t : Bool) → cond t ([] ∷ parts (f ++ 47 ∷ rest)) (onto_first b (parts (f ++ 47 ∷ rest))) ≡ cond t ([] ∷ parts f) (onto_first b (parts f)) ++ parts rest
+    at : parts (f ++ 47 ∷ rest) ≡ parts f ++ parts rest → (t : Bool)
+        → cond t ([] ∷ parts (f ++ 47 ∷ rest)) (onto_first b (parts (f ++ 47 ∷ rest))) ≡ cond t ([] ∷ parts f) (onto_first b (parts f)) ++ parts rest
     at later true = ap (λ (ps : List (List ℕ)). [] ∷ ps) later
     at later false = ap (onto_first b) later ∙ onto (parts f) (parts rest) (some_part f)
 
@@ -64,14 +65,16 @@ folder_of_place (a ∷ b ∷ []) (q ∷ r ∷ []) some more h =
     and_from (bytes_eq a (codes ".git")) (is_among git_folders b) git.0 (told (is_among git_folders) (codes "objects") b refl git.1)
 folder_of_place (a ∷ b ∷ []) (q ∷ r ∷ s ∷ qs) some more h = absurd cc
 folder_of_place (a ∷ b ∷ c ∷ []) [] some more h = absurd (omega arith)
-folder_of_place (a ∷ b ∷ c ∷ []) (q ∷ []) some more h = (and_parts (bytes_eq a (codes ".git") && bytes_eq b (codes "objects") && are_digits 2 c) (are_digits 38 q) h).0
+folder_of_place (a ∷ b ∷ c ∷ []) (q ∷ []) some more h =
+    (and_parts (bytes_eq a (codes ".git") && bytes_eq b (codes "objects") && are_digits 2 c) (are_digits 38 q) h).0
 folder_of_place (a ∷ b ∷ c ∷ []) (q ∷ r ∷ qs) some more h = absurd cc
 folder_of_place (a ∷ b ∷ c ∷ d ∷ ps) [] some more h = absurd (omega arith)
 folder_of_place (a ∷ b ∷ c ∷ d ∷ []) (q ∷ qs) some more h = absurd cc
 folder_of_place (a ∷ b ∷ c ∷ d ∷ e ∷ ps) (q ∷ qs) some more h = absurd cc
 
 -- one of some names is none of others
-among_apart : (xs ys : List (List ℕ)) (name : List ℕ) → list_all (λ n. not (is_among ys n)) xs ≡ true → is_among xs name ≡ true → is_among ys name ≡ false
+among_apart : (xs ys : List (List ℕ)) (name : List ℕ) → list_all (λ n. not (is_among ys n)) xs ≡ true → is_among xs name ≡ true
+    → is_among ys name ≡ false
 among_apart [] ys name apart h = absurd cc
 among_apart (x ∷ xs) ys name apart h =
     let both = and_parts (not (is_among ys x)) (list_all (λ n. not (is_among ys n)) xs) apart in
@@ -84,7 +87,8 @@ among_apart (x ∷ xs) ys name apart h =
 pub folder_no_file : (ps : List (List ℕ)) → is_folder_place ps ≡ true → is_file_place ps ≡ false
 folder_no_file [] h = refl
 folder_no_file (a ∷ []) h = refl
-folder_no_file (a ∷ b ∷ []) h = and_right (bytes_eq a (codes ".git")) (is_among git_files b) (among_apart git_folders git_files b refl (and_parts (bytes_eq a (codes ".git")) (is_among git_folders b) h).1)
+folder_no_file (a ∷ b ∷ []) h =
+    and_right (bytes_eq a (codes ".git")) (is_among git_files b) (among_apart git_folders git_files b refl (and_parts (bytes_eq a (codes ".git")) (is_among git_folders b) h).1)
 folder_no_file (a ∷ b ∷ c ∷ []) h =
     let objects = (and_parts (bytes_eq a (codes ".git")) (bytes_eq b (codes "objects")) (and_parts (bytes_eq a (codes ".git") && bytes_eq b (codes "objects")) (are_digits 2 c) h).0).1 in
     subst (λ (n : List ℕ). is_file_place (a ∷ n ∷ c ∷ []) ≡ false) (sym ((bytes_eq-Decides b (codes "objects")).0 objects)) (and_right (bytes_eq a (codes ".git")) false refl)
@@ -103,7 +107,8 @@ place_size (a ∷ b ∷ c ∷ d ∷ e ∷ ps) h = absurd cc
 abbrev is_clear : List (List ℕ) → ℕ → Bool
 is_clear ps n = not (nat_lt n (length ps) && is_file_place (take n ps))
 
-in_place_parts : (path : List ℕ) → is_in_place path ≡ true → (is_folder_place (parts path) ≡ false) × (is_clear (parts path) 2 ≡ true) × (is_clear (parts path) 3 ≡ true) × (is_clear (parts path) 4 ≡ true)
+in_place_parts : (path : List ℕ) → is_in_place path ≡ true
+    → (is_folder_place (parts path) ≡ false) × (is_clear (parts path) 2 ≡ true) × (is_clear (parts path) 3 ≡ true) × (is_clear (parts path) 4 ≡ true)
 in_place_parts path h =
     let one = and_parts (not (is_folder_place (parts path))) (list_all (is_clear (parts path)) (2 ∷ 3 ∷ 4 ∷ [])) h in
     let two = and_parts (is_clear (parts path) 2) (list_all (is_clear (parts path)) (3 ∷ 4 ∷ [])) one.1 in
@@ -111,7 +116,8 @@ in_place_parts path h =
     let four = and_parts (is_clear (parts path) 4) true three.1 in
     (not-true (is_folder_place (parts path)) one.0, two.0, three.0, four.0)
 
-in_place_from : (path : List ℕ) → is_folder_place (parts path) ≡ false → is_clear (parts path) 2 ≡ true → is_clear (parts path) 3 ≡ true → is_clear (parts path) 4 ≡ true → is_in_place path ≡ true
+in_place_from : (path : List ℕ) → is_folder_place (parts path) ≡ false → is_clear (parts path) 2 ≡ true → is_clear (parts path) 3 ≡ true
+    → is_clear (parts path) 4 ≡ true → is_in_place path ≡ true
 in_place_from path folder two three four = rw (folder, two, three, four) refl
 
 clear_no_place : (ps qs : List (List ℕ)) → 0 < length qs → is_clear (ps ++ qs) (length ps) ≡ true → is_file_place ps ≡ true → ⊥
@@ -138,7 +144,8 @@ pub place_in_place : (path : List ℕ) → is_file_place (parts path) ≡ true �
 place_in_place path place = in_place_from path no_folder (clear 2 (omega arith)) (clear 3 (omega arith)) (clear 4 (omega arith))
   where
     no_folder : is_folder_place (parts path) ≡ false
-    no_folder = false_from_ne_true (is_folder_place (parts path)) (λ folder. both_ways (is_file_place (parts path)) (folder_no_file (parts path) folder) place)
+    no_folder =
+        false_from_ne_true (is_folder_place (parts path)) (λ folder. both_ways (is_file_place (parts path)) (folder_no_file (parts path) folder) place)
 
     clear : (n : ℕ) → 0 < n → is_clear (parts path) n ≡ true
     clear n some = not_from_false _ (false_from_ne_true _ (λ is.
@@ -172,12 +179,14 @@ path_in_place path is = at (parts path) refl (path_parts path is)
         in_place_from path (ap is_folder_place e ∙ (away ps a other).1) (ap (λ (qs : List (List ℕ)). is_clear qs 2) e ∙ clear a ps 1 other) (ap (λ (qs : List (List ℕ)). is_clear qs 3) e ∙ clear a ps 2 other) (ap (λ (qs : List (List ℕ)). is_clear qs 4) e ∙ clear a ps 3 other)
 
 -- parts below `.git/refs` and `.git/logs/refs` are no places
-refs_parts : (p : List ℕ) (ps : List (List ℕ)) → (is_file_place (codes ".git" ∷ codes "refs" ∷ p ∷ ps) ≡ false) × (is_folder_place (codes ".git" ∷ codes "refs" ∷ p ∷ ps) ≡ false)
+refs_parts : (p : List ℕ) (ps : List (List ℕ))
+    → (is_file_place (codes ".git" ∷ codes "refs" ∷ p ∷ ps) ≡ false) × (is_folder_place (codes ".git" ∷ codes "refs" ∷ p ∷ ps) ≡ false)
 refs_parts p [] = (refl, refl)
 refs_parts p (q ∷ []) = (refl, refl)
 refs_parts p (q ∷ r ∷ ps) = (refl, refl)
 
-logs_parts : (p : List ℕ) (ps : List (List ℕ)) → (is_file_place (codes ".git" ∷ codes "logs" ∷ codes "refs" ∷ p ∷ ps) ≡ false) × (is_folder_place (codes ".git" ∷ codes "logs" ∷ codes "refs" ∷ p ∷ ps) ≡ false)
+logs_parts : (p : List ℕ) (ps : List (List ℕ))
+    → (is_file_place (codes ".git" ∷ codes "logs" ∷ codes "refs" ∷ p ∷ ps) ≡ false) × (is_folder_place (codes ".git" ∷ codes "logs" ∷ codes "refs" ∷ p ∷ ps) ≡ false)
 logs_parts p [] = (refl, refl)
 logs_parts p (q ∷ ps) = (refl, refl)
 

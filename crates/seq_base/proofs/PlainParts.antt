@@ -36,7 +36,8 @@ plain_from part h slash =
       some = λ e. let k : is_part [] ≡ true = subst (λ (p : List ℕ). is_part p ≡ true) e h in cc;
       here = λ e. both_ways (bytes_eq (codes ".") part) dots.0 ((bytes_eq-Decides (codes ".") part).1 (sym e));
       above = λ e. both_ways (bytes_eq (codes "..") part) dots.1 ((bytes_eq-Decides (codes "..") part).1 (sym e));
-      git = λ e. both_ways (bytes_eq (codes ".git") (map to_ascii_lowercase part)) special.1 ((bytes_eq-Decides (codes ".git") (map to_ascii_lowercase part)).1 (sym e));
+      git =
+          λ e. both_ways (bytes_eq (codes ".git") (map to_ascii_lowercase part)) special.1 ((bytes_eq-Decides (codes ".git") (map to_ascii_lowercase part)).1 (sym e));
       no_nul = has_no-free 0 part full.1;
       no_slash = has_no-free 47 part slash;
     }
@@ -63,15 +64,18 @@ no_slash (b ∷ bytes) = at (no_slash bytes) (b == 47) refl
   where
     onto : (ps : List (List ℕ)) → (b == 47) ≡ false → All (λ part. has_no 47 part ≡ true) ps → All (λ part. has_no 47 part ≡ true) (onto_first b ps)
     onto [] is h = All-cons (λ part. has_no 47 part ≡ true) (b ∷ []) [] (rw is refl) (All-nil (λ part. has_no 47 part ≡ true))
-    onto (p ∷ ps) is h = All-cons (λ part. has_no 47 part ≡ true) (b ∷ p) ps (rw is (All-head (λ part. has_no 47 part ≡ true) p ps h)) (All-tail (λ part. has_no 47 part ≡ true) p ps h)
+    onto (p ∷ ps) is h =
+        All-cons (λ part. has_no 47 part ≡ true) (b ∷ p) ps (rw is (All-head (λ part. has_no 47 part ≡ true) p ps h)) (All-tail (λ part. has_no 47 part ≡ true) p ps h)
 
-    at : All (λ part. has_no 47 part ≡ true) (parts bytes) → (t : Bool) → (b == 47) ≡ t → All (λ part. has_no 47 part ≡ true) (cond t ([] ∷ parts bytes) (onto_first b (parts bytes)))
+    at : All (λ part. has_no 47 part ≡ true) (parts bytes) → (t : Bool) → (b == 47) ≡ t
+        → All (λ part. has_no 47 part ≡ true) (cond t ([] ∷ parts bytes) (onto_first b (parts bytes)))
     at later true is = All-cons (λ part. has_no 47 part ≡ true) [] (parts bytes) refl later
     at later false is = onto (parts bytes) is later
 
 none_bad : (at : ℕ) (ps : List (List ℕ)) → All (λ part. has_no 47 part ≡ true) ps → first_bad at ps ≡ None → All IsPlainPart ps
 none_bad at [] free h = All-nil IsPlainPart
-none_bad at (p ∷ ps) free h = elim (is_part p) as (λ t. is_part p ≡ t → cond t (first_bad (at + length p + 1) ps) (Some at) ≡ None → All IsPlainPart (p ∷ ps)) [
+none_bad at (p ∷ ps) free h =
+    elim (is_part p) as (λ t. is_part p ≡ t → cond t (first_bad (at + length p + 1) ps) (Some at) ≡ None → All IsPlainPart (p ∷ ps)) [
   | true ↦ λ is later.
       All-cons IsPlainPart p ps (plain_from p is (All-head (λ part. has_no 47 part ≡ true) p ps free))
       (none_bad (at + length p + 1) ps (All-tail (λ part. has_no 47 part ≡ true) p ps free) later)
@@ -100,7 +104,8 @@ record Cut (start at : ℕ) (ps : List (List ℕ)) : Type 0 where
 
 cut : (start at : ℕ) (ps : List (List ℕ)) → All (λ part. has_no 47 part ≡ true) ps → first_bad start ps ≡ Some at → Cut start at ps
 cut start at [] free h = absurd cc
-cut start at (p ∷ ps) free h = elim (is_part p) as (λ t. is_part p ≡ t → cond t (first_bad (start + length p + 1) ps) (Some start) ≡ Some at → Cut start at (p ∷ ps)) [
+cut start at (p ∷ ps) free h =
+    elim (is_part p) as (λ t. is_part p ≡ t → cond t (first_bad (start + length p + 1) ps) (Some start) ≡ Some at → Cut start at (p ∷ ps)) [
   | true ↦ λ is later.
       let c = cut (start + length p + 1) at ps (All-tail (λ part. has_no 47 part ≡ true) p ps free) later in
       record {
@@ -110,7 +115,8 @@ cut start at (p ∷ ps) free h = elim (is_part p) as (λ t. is_part p ≡ t → 
         split = ap (λ (qs : List (List ℕ)). p ∷ qs) c.split;
         plain = All-cons IsPlainPart p c.good (plain_from p is (All-head (λ part. has_no 47 part ≡ true) p ps free)) c.plain;
         not_plain = c.not_plain;
-        place = let far = c.place in omega (arith, length-append p (47 ∷ []), length-append (p ++ 47 ∷ []) (flat_map (λ (part : List ℕ). part ++ 47 ∷ []) c.good));
+        place =
+            let far = c.place in omega (arith, length-append p (47 ∷ []), length-append (p ++ 47 ∷ []) (flat_map (λ (part : List ℕ). part ++ 47 ∷ []) c.good));
       }
   | false ↦ λ is now.
       record {

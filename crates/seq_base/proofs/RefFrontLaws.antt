@@ -35,19 +35,22 @@ hidden : (rest : List ℕ) → list_all is_ref_part (parts (46 ∷ rest)) ≡ tr
 hidden rest h = at (parts rest) h
   where
     shown : (part : List ℕ) → is_ref_part part ≡ true → not (slice_index part 0 == 46) ≡ true
-    shown part is = (and_parts (not (length part == 0)) (not (slice_index part 0 == 46)) (and_parts (not (length part == 0) && not (slice_index part 0 == 46)) (not (ends_with nat_eq part (codes ".lock"))) is).0).1
+    shown part is =
+        (and_parts (not (length part == 0)) (not (slice_index part 0 == 46)) (and_parts (not (length part == 0) && not (slice_index part 0 == 46)) (not (ends_with nat_eq part (codes ".lock"))) is).0).1
 
     at : (ps : List (List ℕ)) → list_all is_ref_part (onto_first 46 ps) ≡ true → ⊥
     at [] all = let k = shown (46 ∷ []) (and_parts (is_ref_part (46 ∷ [])) true all).0 in cc
     at (p ∷ ps) all = let k = shown (46 ∷ p) (and_parts (is_ref_part (46 ∷ p)) (list_all is_ref_part ps) all).0 in cc
 
 -- the parts of a name that goes on behind its last slash
-parts_behind : (seen : List ℕ) (rest : List ℕ) (n : ℕ) (p : PartsFront n seen) → list_all is_ref_part (parts (seen ++ rest)) ≡ true → list_all is_ref_part (parts (p.last ++ rest)) ≡ true
+parts_behind : (seen : List ℕ) (rest : List ℕ) (n : ℕ) (p : PartsFront n seen) → list_all is_ref_part (parts (seen ++ rest)) ≡ true
+    → list_all is_ref_part (parts (p.last ++ rest)) ≡ true
 parts_behind seen rest n p h =
     let split : parts (seen ++ rest) ≡ parts p.above ++ parts (p.last ++ rest) = ap (λ (l : List ℕ). parts (l ++ rest)) p.split ∙ ap parts (append_assoc p.above (47 ∷ p.last) rest) ∙ parts-behind p.above (p.last ++ rest) in
     (and_parts (list_all is_ref_part (parts p.above)) (list_all is_ref_part (parts (p.last ++ rest))) (sym (ap (list_all is_ref_part) split ∙ list_all-append is_ref_part (parts p.above) (parts (p.last ++ rest))) ∙ h)).1
 
-keeps_in_name : (seen : List ℕ) (b : ℕ) (rest : List ℕ) (n : ℕ) (p : PartsFront n seen) → list_all is_ref_part (parts (seen ++ b ∷ rest)) ≡ true → keeps p.last b ≡ true
+keeps_in_name : (seen : List ℕ) (b : ℕ) (rest : List ℕ) (n : ℕ) (p : PartsFront n seen) → list_all is_ref_part (parts (seen ++ b ∷ rest)) ≡ true
+    → keeps p.last b ≡ true
 keeps_in_name seen b rest n p h = elim (cases_Bool (b == 47)) [
   | inl slash ↦
       let at_slash : list_all is_ref_part (parts (p.last ++ 47 ∷ rest)) ≡ true = subst (λ (c : ℕ). list_all is_ref_part (parts (p.last ++ c ∷ rest)) ≡ true) (eqb-true b 47 slash) behind in
@@ -72,7 +75,8 @@ follows_in_name seen b rest f is =
     (apart 64 123 (not-true (has_pair 64 123 (seen ++ b ∷ rest)) is.no_log))
   where
     byte : is_ref_byte b ≡ true
-    byte = (and_parts (is_ref_byte b) (list_all is_ref_byte rest) (and_parts (list_all is_ref_byte seen) (list_all is_ref_byte (b ∷ rest)) (sym (list_all-append is_ref_byte seen (b ∷ rest)) ∙ is.bytes)).1).0
+    byte =
+        (and_parts (is_ref_byte b) (list_all is_ref_byte rest) (and_parts (list_all is_ref_byte seen) (list_all is_ref_byte (b ∷ rest)) (sym (list_all-append is_ref_byte seen (b ∷ rest)) ∙ is.bytes)).1).0
 
     apart : (x y : ℕ) → has_pair x y (seen ++ b ∷ rest) ≡ false → not (last_of seen == x && b == y) ≡ true
     apart x y none =
@@ -115,7 +119,8 @@ begun_short front h ne = elim (or_cases (starts_with nat_eq (codes "refs/") fron
     at (b ∷ back) e = omega (arith, ap length e, length-append front (b ∷ back))
 
 -- the bytes with which a name goes on pass the test
-pub name_goes_on : (s : RefFront) (seen : List ℕ) (b : ℕ) (rest : List ℕ) → Stands s seen → IsRefName (seen ++ b ∷ rest) → goes_on s (seen ++ b ∷ []) ≡ true
+pub name_goes_on : (s : RefFront) (seen : List ℕ) (b : ℕ) (rest : List ℕ) → Stands s seen → IsRefName (seen ++ b ∷ rest)
+    → goes_on s (seen ++ b ∷ []) ≡ true
 name_goes_on s seen b rest (before start all begins ne) is =
     let within : nat_lt s.text (length (seen ++ b ∷ [])) ≡ true = lt-ltb s.text (length (seen ++ b ∷ [])) (omega (arith, length-append seen (b ∷ []))) in
     let size : length (seen ++ b ∷ []) ≤ 5 = let k = begun_short seen begins ne in omega (arith, length-append seen (b ∷ [])) in
@@ -193,7 +198,8 @@ plain_parts b h =
     record { byte = one.0; slash = one.1; dot = two.1; brace = three.1; fits = four.1 }
 
 -- a part that goes on so, and ends in an `a`, is one of a ref
-ended_part : (last more : List ℕ) → (slice_index last 0 == 46) ≡ false → list_all is_plain_byte more ≡ true → is_ref_part (last ++ more ++ 97 ∷ []) ≡ true
+ended_part : (last more : List ℕ) → (slice_index last 0 == 46) ≡ false → list_all is_plain_byte more ≡ true
+    → is_ref_part (last ++ more ++ 97 ∷ []) ≡ true
 ended_part last more shown plain =
     let whole : List ℕ = last ++ more ++ 97 ∷ [] in
     and_from (not (length whole == 0) && not (slice_index whole 0 == 46)) (not (ends_with nat_eq whole (codes ".lock")))
@@ -236,7 +242,8 @@ pub record Named (front : List ℕ) : Type 0 where
   pub is_name : IsRefName (front ++ rest)
 
 -- a front of a word goes on as the word does
-of_word : (word front more : List ℕ) → starts_with nat_eq word front ≡ true → list_all (λ b. nat_lt b 256) word ≡ true → list_all (λ b. nat_lt b 256) more ≡ true → IsRefName (word ++ more) → Named front
+of_word : (word front more : List ℕ) → starts_with nat_eq word front ≡ true → list_all (λ b. nat_lt b 256) word ≡ true
+    → list_all (λ b. nat_lt b 256) more ≡ true → IsRefName (word ++ more) → Named front
 of_word word front more begins fits fit is =
     let e = behind_front front word begins in
     let back = drop (length front) word in
@@ -248,7 +255,8 @@ of_word word front more begins fits fit is =
     }
 
 pub some_name : (s : RefFront) (front : List ℕ) → Stands s front → Named front
-some_name s front (before start all begins ne) = elim (or_cases (starts_with nat_eq (codes "refs/") front) (starts_with nat_eq (codes "HEAD") front) begins) [
+some_name s front (before start all begins ne) =
+    elim (or_cases (starts_with nat_eq (codes "refs/") front) (starts_with nat_eq (codes "HEAD") front) begins) [
   | inl refs ↦ of_word (codes "refs/") front (97 ∷ []) refs refl refl refl
   | inr head ↦ of_word (codes "HEAD") front [] head refl refl refl
 ]
@@ -256,7 +264,9 @@ some_name s front (below w) =
     let e = char_ends w.text.broken (utf8-is_text [] refl) w.text.is_broken in
     record {
       rest = e.bytes ++ 97 ∷ [];
-      fits = list_all-append (λ b. nat_lt b 256) e.bytes (97 ∷ []) ∙ and_from _ _ (each follows (λ b. nat_lt b 256) e.bytes (λ b h. (plain_parts b (high_plain b h)).fits) e.follow) refl;
+      fits =
+          list_all-append (λ b. nat_lt b 256) e.bytes (97 ∷ [])
+          ∙ and_from _ _ (each follows (λ b. nat_lt b 256) e.bytes (λ b h. (plain_parts b (high_plain b h)).fits) e.follow) refl;
       is_name = named_below s front w e;
     }
 
@@ -266,7 +276,8 @@ at_start s part text = before part text refl (λ e. absurd (omega (arith, ap len
 
 -- ---- the first fault
 
-pub bad_byte : (s : RefFront) (name : List ℕ) (at : ℕ) → Stands s (take at name) → at < length name → goes_on s (take (at + 1) name) ≡ false → IsBadInRefName name at
+pub bad_byte : (s : RefFront) (name : List ℕ) (at : ℕ) → Stands s (take at name) → at < length name → goes_on s (take (at + 1) name) ≡ false
+    → IsBadInRefName name at
 bad_byte s name at here lt stop = record {
   within = omega arith;
   goes_on = let n = some_name s (take at name) here in (n.rest, n.is_name);
@@ -294,7 +305,8 @@ bad_end s name here not_one = record {
 -- ---- what the code answers
 
 pub stops : (s : RefFront) (front : List ℕ) → behind s front ≡ None → goes_on s front ≡ false
-stops s front e = false_from_ne_true (goes_on s front) (λ on. let k : Some (record { part = next_part s front; text = next_text s front }) ≡ None = sym (cond-true (goes_on s front) _ None on) ∙ e in cc)
+stops s front e =
+    false_from_ne_true (goes_on s front) (λ on. let k : Some (record { part = next_part s front; text = next_text s front }) ≡ None = sym (cond-true (goes_on s front) _ None on) ∙ e in cc)
 
 pub steps : (s t : RefFront) (seen : List ℕ) (b : ℕ) → behind s (seen ++ b ∷ []) ≡ Some t → Stands s seen → Stands t (seen ++ b ∷ [])
 steps s t seen b e here = elim (cases_Bool (goes_on s (seen ++ b ∷ []))) [
@@ -307,7 +319,8 @@ steps s t seen b e here = elim (cases_Bool (goes_on s (seen ++ b ∷ []))) [
 ]
 
 -- the same at the first bytes of a name
-pub steps_at : (s t : RefFront) (name : List ℕ) (at : ℕ) → at < length name → behind s (take (at + 1) name) ≡ Some t → Stands s (take at name) → Stands t (take (at + 1) name)
+pub steps_at : (s t : RefFront) (name : List ℕ) (at : ℕ) → at < length name → behind s (take (at + 1) name) ≡ Some t → Stands s (take at name)
+    → Stands t (take (at + 1) name)
 steps_at s t name at lt e here =
     let more : take (at + 1) name ≡ take at name ++ get_or name at 0 ∷ [] = take_more name at 0 lt in
     subst (Stands t) (sym more) (steps s t (take at name) (get_or name at 0) (ap (behind s) (sym more) ∙ e) here)

@@ -101,7 +101,8 @@ keeps_is : (s : RefFront) (seen : List ℕ) (b : ℕ) (p : PartsFront s.part see
 keeps_is s seen b p = rw (at-last seen b, last_part s.part seen b p, same_end s.part seen b p) refl
 
 -- a byte more keeps the parts good
-parts_more : (s : RefFront) (seen : List ℕ) (b m : ℕ) (p : PartsFront s.part seen) → keeps p.last b ≡ true → m ≡ cond (b == 47) (length (seen ++ b ∷ [])) s.part → PartsFront m (seen ++ b ∷ [])
+parts_more : (s : RefFront) (seen : List ℕ) (b m : ℕ) (p : PartsFront s.part seen) → keeps p.last b ≡ true
+    → m ≡ cond (b == 47) (length (seen ++ b ∷ [])) s.part → PartsFront m (seen ++ b ∷ [])
 parts_more s seen b m p k size = elim (cases_Bool (b == 47)) [
   | inl slash ↦
       let last_good : is_ref_part p.last ≡ true = sym (cond-true (b == 47) (is_ref_part p.last) (not (length p.last == 0 && b == 46)) slash) ∙ k in
@@ -110,7 +111,9 @@ parts_more s seen b m p k size = elim (cases_Bool (b == 47)) [
         last = [];
         split = ap (λ (c : ℕ). seen ++ c ∷ []) (eqb-true b 47 slash);
         size = size ∙ cond-true (b == 47) _ _ slash ∙ length-append seen (b ∷ []);
-        good = ap (λ (l : List ℕ). list_all is_ref_part (parts l)) p.split ∙ ap (list_all is_ref_part) (parts_of p.above p.last p.plain) ∙ list_all-append is_ref_part (parts p.above) (p.last ∷ []) ∙ rw (p.good, last_good) refl;
+        good =
+            ap (λ (l : List ℕ). list_all is_ref_part (parts l)) p.split ∙ ap (list_all is_ref_part) (parts_of p.above p.last p.plain)
+            ∙ list_all-append is_ref_part (parts p.above) (p.last ∷ []) ∙ rw (p.good, last_good) refl;
         plain = refl;
         shown = refl;
       }
@@ -137,7 +140,8 @@ rest_of_text : (n : ℕ) (seen : List ℕ) (b : ℕ) (t : TextFront n seen) → 
 rest_of_text n seen b t =
     ap (drop n) (ap (λ (l : List ℕ). l ++ b ∷ []) t.split ∙ append_assoc t.done t.broken (b ∷ [])) ∙ ap (λ (j : ℕ). drop j (t.done ++ (t.broken ++ b ∷ []))) t.size ∙ drop-append_seam t.done (t.broken ++ b ∷ [])
 
-text_more : (n m : ℕ) (seen : List ℕ) (b : ℕ) (t : TextFront n seen) → begins_char (t.broken ++ b ∷ []) ≡ true → m ≡ cond (is_char (t.broken ++ b ∷ [])) (length (seen ++ b ∷ [])) n → TextFront m (seen ++ b ∷ [])
+text_more : (n m : ℕ) (seen : List ℕ) (b : ℕ) (t : TextFront n seen) → begins_char (t.broken ++ b ∷ []) ≡ true
+    → m ≡ cond (is_char (t.broken ++ b ∷ [])) (length (seen ++ b ∷ [])) n → TextFront m (seen ++ b ∷ [])
 text_more n m seen b t begins size = elim (cases_Bool (is_char (t.broken ++ b ∷ []))) [
   | inl whole ↦ record {
     done = seen ++ b ∷ [];
@@ -223,7 +227,8 @@ none_below s front part text is = record {
 }
 
 -- where one stands behind a byte with which some name goes on
-pub stands_behind : (s t : RefFront) (seen : List ℕ) (b : ℕ) → goes_on s (seen ++ b ∷ []) ≡ true → t.part ≡ next_part s (seen ++ b ∷ []) → t.text ≡ next_text s (seen ++ b ∷ []) → Stands s seen → Stands t (seen ++ b ∷ [])
+pub stands_behind : (s t : RefFront) (seen : List ℕ) (b : ℕ) → goes_on s (seen ++ b ∷ []) ≡ true → t.part ≡ next_part s (seen ++ b ∷ [])
+    → t.text ≡ next_text s (seen ++ b ∷ []) → Stands s seen → Stands t (seen ++ b ∷ [])
 stands_behind s t seen b on part text (before start all begins ne) =
     let front = seen ++ b ∷ [] in
     let zero : (s.part == 0) ≡ true = eq-eqb s.part 0 start in

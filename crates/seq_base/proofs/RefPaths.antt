@@ -29,7 +29,8 @@ all_in_parts p (b ∷ bytes) h = at (all_in_parts p bytes both.1) (b == 47)
         let split = and_parts (list_all p part) (list_all (list_all p) ps) later in
         and_from (list_all p (b ∷ part)) (list_all (list_all p) ps) (and_from (p b) (list_all p part) both.0 split.0) split.1
 
-    at : list_all (list_all p) (parts bytes) ≡ true → (t : Bool) → list_all (list_all p) (cond t ([] ∷ parts bytes) (onto_first b (parts bytes))) ≡ true
+    at : list_all (list_all p) (parts bytes) ≡ true → (t : Bool)
+        → list_all (list_all p) (cond t ([] ∷ parts bytes) (onto_first b (parts bytes))) ≡ true
     at later true = later
     at later false = onto (parts bytes) later
 
@@ -91,7 +92,8 @@ behind_front front bytes h =
     sym (take-append-drop (length front) bytes) ∙ ap (λ (f : List ℕ). f ++ drop (length front) bytes) (sym ((bytes_eq-Decides front (take (length front) bytes)).0 h))
 
 -- below a folder that a store may hold
-below_folder : (folder name : List ℕ) → is_text (folder ++ 47 ∷ []) ≡ true → list_all is_store_part (parts folder) ≡ true → is_below_refs name ≡ true → IsStorePath (folder ++ 47 ∷ name)
+below_folder : (folder name : List ℕ) → is_text (folder ++ 47 ∷ []) ≡ true → list_all is_store_part (parts folder) ≡ true → is_below_refs name ≡ true
+    → IsStorePath (folder ++ 47 ∷ name)
 below_folder folder name front good h =
     let is = below_refs name h in
     let text : is_text (folder ++ 47 ∷ name) ≡ true = is_text-utf8 _ (subst IsUtf8 (append_assoc folder (47 ∷ []) name) (IsUtf8-append (folder ++ 47 ∷ []) name (utf8-is_text (folder ++ 47 ∷ []) front) (utf8-is_text name is.text))) in

@@ -27,7 +27,8 @@ neither true b h = cc
 neither false b h = (refl, h)
 
 -- a test that no path of the list passes, at one of the list
-none_passes : (test : List ℕ → Bool) (q : List ℕ) (ks : List (List ℕ)) → list_any (eq_by_cmp path_cmp q) ks ≡ true → list_any test ks ≡ false → test q ≡ false
+none_passes : (test : List ℕ → Bool) (q : List ℕ) (ks : List (List ℕ)) → list_any (eq_by_cmp path_cmp q) ks ≡ true → list_any test ks ≡ false
+    → test q ≡ false
 none_passes test q [] there none = cc
 none_passes test q (k ∷ ks) there none =
     let parts = neither (test k) (list_any test ks) none in
@@ -36,20 +37,24 @@ none_passes test q (k ∷ ks) there none =
       | false ↦ λ _ h. none_passes test q ks h parts.1
     ] refl there
 
-pub free_of : (w : World) (path file : List ℕ) → is_blocked w path ≡ false → map.contains_key w file ≡ true → (is_below path file ≡ false) × (is_below file path ≡ false)
+pub free_of : (w : World) (path file : List ℕ) → is_blocked w path ≡ false → map.contains_key w file ≡ true
+    → (is_below path file ≡ false) × (is_below file path ≡ false)
 free_of w path file free there =
     neither (is_below path file) (is_below file path)
     (none_passes (λ k. is_below path k || is_below k path) file (map.keys w) (sym (contains_key-keys w file) ∙ there) free)
 
-pub after : (w : World) (path bytes q : List ℕ) (b : Bool) → eq_by_cmp path_cmp q path ≡ b → map.contains_key (map.insert w path bytes) q ≡ true → cond b (q ≡ path) (map.contains_key w q ≡ true)
+pub after : (w : World) (path bytes q : List ℕ) (b : Bool) → eq_by_cmp path_cmp q path ≡ b → map.contains_key (map.insert w path bytes) q ≡ true
+    → cond b (q ≡ path) (map.contains_key w q ≡ true)
 after w path bytes q true e there = same_path q path e
-after w path bytes q false e there = sym (ap is_some (get-insert nat_list_cmp_total w path bytes q) ∙ ap (λ b. is_some (cond b (Some bytes) (map.get w q))) e) ∙ there
+after w path bytes q false e there =
+    sym (ap is_some (get-insert nat_list_cmp_total w path bytes q) ∙ ap (λ b. is_some (cond b (Some bytes) (map.get w q))) e) ∙ there
 
 pub equal_to_itself : (p : List ℕ) → eq_by_cmp path_cmp p p ≡ true
 equal_to_itself p = is_eq-slice_cmp p p ∙ (bytes_eq-Decides p p).1 refl
 
 -- a test that fails at each path of a list
-fails_at_all : (test : List ℕ → Bool) (ks : List (List ℕ)) → ((q : List ℕ) → list_any (eq_by_cmp path_cmp q) ks ≡ true → test q ≡ false) → list_any test ks ≡ false
+fails_at_all : (test : List ℕ → Bool) (ks : List (List ℕ)) → ((q : List ℕ) → list_any (eq_by_cmp path_cmp q) ks ≡ true → test q ≡ false)
+    → list_any test ks ≡ false
 fails_at_all test [] h = refl
 fails_at_all test (k ∷ ks) h =
     or_from (test k) (list_any test ks)
@@ -57,7 +62,8 @@ fails_at_all test (k ∷ ks) h =
     (fails_at_all test ks (λ q there. h q (or_right (eq_by_cmp path_cmp q k) (list_any (eq_by_cmp path_cmp q) ks) there)))
 
 -- a path is free where no file stands in its way
-pub free_from : (w : World) (path : List ℕ) → ((file : List ℕ) → map.contains_key w file ≡ true → (is_below path file ≡ false) × (is_below file path ≡ false)) → is_blocked w path ≡ false
+pub free_from : (w : World) (path : List ℕ)
+    → ((file : List ℕ) → map.contains_key w file ≡ true → (is_below path file ≡ false) × (is_below file path ≡ false)) → is_blocked w path ≡ false
 free_from w path h =
     fails_at_all (λ file. is_below path file || is_below file path) (map.keys w) (λ file among.
     let apart = h file (contains_key-keys w file ∙ among) in or_from (is_below path file) (is_below file path) apart.0 apart.1)
@@ -96,7 +102,8 @@ there_after_remove w path q there =
     ] (sym (ap is_some (get-remove nat_list_cmp_total w path q)) ∙ there)
 
 pub removed_world : (w : World) (path : List ℕ) → IsWorld w → IsWorld (map.remove w path)
-removed_world w path shaped folder file has_folder has_file = shaped folder file (there_after_remove w path folder has_folder) (there_after_remove w path file has_file)
+removed_world w path shaped folder file has_folder has_file =
+    shaped folder file (there_after_remove w path folder has_folder) (there_after_remove w path file has_file)
 
 abbrev mapped : List (List ℕ × List ℕ) → List (List ℕ)
 mapped es = Rattle.std.specs.Prelude.map (λ (e : List ℕ × List ℕ). e.0) es
@@ -117,9 +124,11 @@ not_true : (b : Bool) → b ≡ false → b ≡ true → ⊥
 not_true true h k = cc
 not_true false h k = cc
 
-any_put : (test : List ℕ → Bool) (k v : List ℕ) (es : List (List ℕ × List ℕ)) → list_any test (mapped (put path_cmp k v es)) ≡ true → (test k ≡ true) ⊎ (list_any test (mapped es) ≡ true)
+any_put : (test : List ℕ → Bool) (k v : List ℕ) (es : List (List ℕ × List ℕ)) → list_any test (mapped (put path_cmp k v es)) ≡ true
+    → (test k ≡ true) ⊎ (list_any test (mapped es) ≡ true)
 any_put test k v [] h = inl (or_false (test k) h)
-any_put test k v (e ∷ es) h = elim (path_cmp k e.0) as (λ o. path_cmp k e.0 ≡ o → list_any test (mapped (by_order o ((k, v) ∷ e ∷ es) ((e.0, v) ∷ es) (e ∷ put path_cmp k v es))) ≡ true → (test k ≡ true) ⊎ (test e.0 || list_any test (mapped es) ≡ true)) [
+any_put test k v (e ∷ es) h =
+    elim (path_cmp k e.0) as (λ o. path_cmp k e.0 ≡ o → list_any test (mapped (by_order o ((k, v) ∷ e ∷ es) ((e.0, v) ∷ es) (e ∷ put path_cmp k v es))) ≡ true → (test k ≡ true) ⊎ (test e.0 || list_any test (mapped es) ≡ true)) [
   | Less ↦ λ _ h. either (test k) _ h
   | Equal ↦ λ _ h. inr h
   | Greater ↦ λ _ h. elim (either (test e.0) _ h) [
@@ -129,7 +138,8 @@ any_put test k v (e ∷ es) h = elim (path_cmp k e.0) as (λ o. path_cmp k e.0 �
 ] refl h
 
 -- a put elsewhere leaves a path free
-pub still_free : (w : World) (path bytes other : List ℕ) → is_blocked w other ≡ false → is_below other path ≡ false → is_below path other ≡ false → is_blocked (map.insert w path bytes) other ≡ false
+pub still_free : (w : World) (path bytes other : List ℕ) → is_blocked w other ≡ false → is_below other path ≡ false → is_below path other ≡ false
+    → is_blocked (map.insert w path bytes) other ≡ false
 still_free w path bytes other free below above =
     let test : List ℕ → Bool = λ file. is_below other file || is_below file other in
     elim (is_blocked (map.insert w path bytes) other) as (λ b. is_blocked (map.insert w path bytes) other ≡ b → b ≡ false) [

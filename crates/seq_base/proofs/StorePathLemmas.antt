@@ -16,17 +16,20 @@ good true true false true git h = cc
 good true true false false git h = refl
 
 good_part : (part : List ℕ) → is_part part ≡ true → is_store_part part ≡ true
-good_part part h = good (not (length part == 0)) (list_all (λ b. not (b == 0)) part) (bytes_eq (codes ".") part) (bytes_eq (codes "..") part) (bytes_eq (codes ".git") (map to_ascii_lowercase part)) h
+good_part part h =
+    good (not (length part == 0)) (list_all (λ b. not (b == 0)) part) (bytes_eq (codes ".") part) (bytes_eq (codes "..") part) (bytes_eq (codes ".git") (map to_ascii_lowercase part)) h
 
 both : (a b : Bool) → a ≡ true → b ≡ true → a && b ≡ true
 both a b p q = rw p q
 
 none_bad : (at : ℕ) (ps : List (List ℕ)) → first_bad at ps ≡ None → list_all is_store_part ps ≡ true
 none_bad at [] h = refl
-none_bad at (p ∷ ps) h = elim (is_part p) as (λ t. is_part p ≡ t → cond t (first_bad (at + length p + 1) ps) (Some at) ≡ None → is_store_part p && list_all is_store_part ps ≡ true) [
+none_bad at (p ∷ ps) h =
+    elim (is_part p) as (λ t. is_part p ≡ t → cond t (first_bad (at + length p + 1) ps) (Some at) ≡ None → is_store_part p && list_all is_store_part ps ≡ true) [
   | true ↦ λ part rest. both (is_store_part p) (list_all is_store_part ps) (good_part p part) (none_bad (at + length p + 1) ps rest)
   | false ↦ λ part rest. absurd cc
 ] refl h
 
 pub path_is_store_path : (bytes : List ℕ) → IsPath bytes → IsStorePath bytes
-path_is_store_path bytes path = both (is_text bytes) (list_all is_store_part (parts bytes)) (is_text-utf8 bytes path.text) (none_bad 0 (parts bytes) path.parts_are)
+path_is_store_path bytes path =
+    both (is_text bytes) (list_all is_store_part (parts bytes)) (is_text-utf8 bytes path.text) (none_bad 0 (parts bytes) path.parts_are)

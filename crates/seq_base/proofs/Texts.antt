@@ -32,7 +32,8 @@ or_none true b h k = h
 or_none false b h k = k
 
 pub is_text-other : (bytes : List ℕ) → (IsUtf8 bytes → ⊥) → is_text bytes ≡ false
-is_text-other bytes h = or_none (list_all is_ascii bytes) (is_utf8 bytes) (none_true (list_all is_ascii bytes) (λ e. h (IsUtf8-from_ascii bytes (ascii bytes e)))) (none_true (is_utf8 bytes) (λ e. h (IsUtf8-from_is_utf8 bytes e)))
+is_text-other bytes h =
+    or_none (list_all is_ascii bytes) (is_utf8 bytes) (none_true (list_all is_ascii bytes) (λ e. h (IsUtf8-from_ascii bytes (ascii bytes e)))) (none_true (is_utf8 bytes) (λ e. h (IsUtf8-from_is_utf8 bytes e)))
 
 pub utf8-is_text : (bytes : List ℕ) → is_text bytes ≡ true → IsUtf8 bytes
 utf8-is_text bytes h = elim (or_cases (list_all is_ascii bytes) (is_utf8 bytes) h) [

@@ -62,7 +62,8 @@ switched_to index ours m message = do
 
 -- a commit of a tree on HEAD, with the author, the encoding and the message of another
 abbrev pub commit_on : Id → Id → CommitFields → Text → CommitFields
-commit_on tree head commit ident = record { tree = tree; parents = head ∷ []; author = commit.author; committer = ident; encoding = commit.encoding; message = commit.message }
+commit_on tree head commit ident =
+    record { tree = tree; parents = head ∷ []; author = commit.author; committer = ident; encoding = commit.encoding; message = commit.message }
 
 abbrev pub commit_object : CommitFields → Object
 commit_object commit = record { kind = Commit; bytes = commit_text commit }

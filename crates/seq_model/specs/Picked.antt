@@ -35,7 +35,8 @@ prepared vars word = do
 
 -- a pick that is prepared, with its commit at a moment
 unfoldable pub finished : Prepared → Text → ℤ → Turn Denial Id
-finished pick zone secs = committed pick.on pick.head pick.tree pick.commit (record { name = pick.committer.name; email = pick.committer.email; secs = secs; zone = zone })
+finished pick zone secs =
+    committed pick.on pick.head pick.tree pick.commit (record { name = pick.committer.name; email = pick.committer.email; secs = secs; zone = zone })
 
 -- The commit that a pick of this word makes at a moment, in seconds; answers its id.
 unfoldable pub picked : Env → ℤ → Text → Turn Denial Id

@@ -40,26 +40,32 @@ written_elsewhere w (x ∷ xs) q none =
     written_elsewhere (after w x) xs q both.1 ∙ get_after w x q ∙ ap (λ (b : Bool). cond b (left_by x) (map.get w q)) both.0
 
 -- a write that no later one covers
-pub first_stays : (w : World) (x : Write) (xs : List Write) (q : List ℕ) → is_at q x ≡ true → is_written xs (path_of x) ≡ false → map.get (written (after w x) xs) q ≡ left_by x
+pub first_stays : (w : World) (x : Write) (xs : List Write) (q : List ℕ) → is_at q x ≡ true → is_written xs (path_of x) ≡ false
+    → map.get (written (after w x) xs) q ≡ left_by x
 first_stays w x xs q here none =
     written_elsewhere (after w x) xs q (ap (is_written xs) (same_path q (path_of x) here) ∙ none) ∙ get_after w x q ∙ ap (λ (b : Bool). cond b (left_by x) (map.get w q)) here
 
 -- worlds that agree at a path do so after the same writes
 written_same : (v w : World) (xs : List Write) (q : List ℕ) → map.get v q ≡ map.get w q → map.get (written v xs) q ≡ map.get (written w xs) q
 written_same v w [] q same = same
-written_same v w (x ∷ xs) q same = written_same (after v x) (after w x) xs q (get_after v x q ∙ ap (cond (is_at q x) (left_by x)) same ∙ sym (get_after w x q))
+written_same v w (x ∷ xs) q same =
+    written_same (after v x) (after w x) xs q (get_after v x q ∙ ap (cond (is_at q x) (left_by x)) same ∙ sym (get_after w x q))
 
 -- a path that the write does not name, which names another
 pub other_path : (path q : List ℕ) (x : Write) → is_at path x ≡ true → eq_by_cmp path_cmp q path ≡ false → is_at q x ≡ false
 other_path path q x here other = ap (eq_by_cmp path_cmp q) (sym (same_path path (path_of x) here)) ∙ other
 
 -- the writes but those of the path do the same elsewhere
-pub without_elsewhere : (w : World) (path : List ℕ) (xs : List Write) (q : List ℕ) → eq_by_cmp path_cmp q path ≡ false → map.get (written w (without path xs)) q ≡ map.get (written w xs) q
+pub without_elsewhere : (w : World) (path : List ℕ) (xs : List Write) (q : List ℕ) → eq_by_cmp path_cmp q path ≡ false
+    → map.get (written w (without path xs)) q ≡ map.get (written w xs) q
 without_elsewhere w path [] q other = refl
 without_elsewhere w path (x ∷ xs) q other = at (λ v. without_elsewhere v path xs q other) (is_at path x) refl
   where
-    at : ((v : World) → map.get (written v (without path xs)) q ≡ map.get (written v xs) q) → (b : Bool) → is_at path x ≡ b → map.get (written w (cond b (without path xs) (x ∷ without path xs))) q ≡ map.get (written (after w x) xs) q
-    at later true here = later w ∙ written_same w (after w x) xs q (sym (get_after w x q ∙ ap (λ (b : Bool). cond b (left_by x) (map.get w q)) (other_path path q x here other)))
+    at : ((v : World) → map.get (written v (without path xs)) q ≡ map.get (written v xs) q) → (b : Bool) → is_at path x ≡ b
+        → map.get (written w (cond b (without path xs) (x ∷ without path xs))) q ≡ map.get (written (after w x) xs) q
+    at later true here =
+        later w
+        ∙ written_same w (after w x) xs q (sym (get_after w x q ∙ ap (λ (b : Bool). cond b (left_by x) (map.get w q)) (other_path path q x here other)))
     at later false _ = later (after w x)
 
 -- ---- a change in a draft
@@ -70,15 +76,18 @@ written_last w xs x =
     ∙ same_world (after (written w (without (path_of x) xs)) x) (after (written w xs) x) (λ q.
     get_after (written w (without (path_of x) xs)) x q ∙ at q (is_at q x) refl ∙ sym (get_after (written w xs) x q))
   where
-    at : (q : List ℕ) (b : Bool) → is_at q x ≡ b → cond b (left_by x) (map.get (written w (without (path_of x) xs)) q) ≡ cond b (left_by x) (map.get (written w xs) q)
+    at : (q : List ℕ) (b : Bool) → is_at q x ≡ b
+        → cond b (left_by x) (map.get (written w (without (path_of x) xs)) q) ≡ cond b (left_by x) (map.get (written w xs) q)
     at q true e = refl
     at q false e = without_elsewhere w (path_of x) xs q e
 
 unwritten_without : (path : List ℕ) (xs : List Write) (q : List ℕ) → is_written xs q ≡ false → is_written (without path xs) q ≡ false
 unwritten_without path [] q none = refl
-unwritten_without path (x ∷ xs) q none = let both = or_parts (is_at q x) (is_written xs q) none in at both.0 (unwritten_without path xs q both.1) (is_at path x)
+unwritten_without path (x ∷ xs) q none =
+    let both = or_parts (is_at q x) (is_written xs q) none in at both.0 (unwritten_without path xs q both.1) (is_at path x)
   where
-    at : is_at q x ≡ false → is_written (without path xs) q ≡ false → (b : Bool) → is_written (cond b (without path xs) (x ∷ without path xs)) q ≡ false
+    at : is_at q x ≡ false → is_written (without path xs) q ≡ false → (b : Bool)
+        → is_written (cond b (without path xs) (x ∷ without path xs)) q ≡ false
     at here later true = later
     at here later false = or_from (is_at q x) (is_written (without path xs) q) here later
 
@@ -86,13 +95,15 @@ pub path_without : (path : List ℕ) (xs : List Write) → is_written (without p
 path_without path [] = refl
 path_without path (x ∷ xs) = at (path_without path xs) (is_at path x) refl
   where
-    at : is_written (without path xs) path ≡ false → (b : Bool) → is_at path x ≡ b → is_written (cond b (without path xs) (x ∷ without path xs)) path ≡ false
+    at : is_written (without path xs) path ≡ false → (b : Bool) → is_at path x ≡ b
+        → is_written (cond b (without path xs) (x ∷ without path xs)) path ≡ false
     at later true _ = later
     at later false e = or_from (is_at path x) (is_written (without path xs) path) e later
 
 pub without_none : (path : List ℕ) (xs : List Write) → is_written xs path ≡ false → without path xs ≡ xs
 without_none path [] none = refl
-without_none path (x ∷ xs) none = let both = or_parts (is_at path x) (is_written xs path) none in rw both.0 (ap (λ (ys : List Write). x ∷ ys) (without_none path xs both.1))
+without_none path (x ∷ xs) none =
+    let both = or_parts (is_at path x) (is_written xs path) none in rw both.0 (ap (λ (ys : List Write). x ∷ ys) (without_none path xs both.1))
 
 pub apart_without : (path : List ℕ) (xs : List Write) → AreApart xs → AreApart (without path xs)
 apart_without path [] apart = tt
@@ -104,7 +115,8 @@ apart_without path (x ∷ xs) apart = at (apart_without path xs apart.1) (is_at 
 
 unwritten_behind : (xs : List Write) (x : Write) (q : List ℕ) → is_written xs q ≡ false → is_at q x ≡ false → is_written (xs ++ x ∷ []) q ≡ false
 unwritten_behind [] x q none other = or_from (is_at q x) false other refl
-unwritten_behind (y ∷ ys) x q none other = let both = or_parts (is_at q y) (is_written ys q) none in or_from (is_at q y) (is_written (ys ++ x ∷ []) q) both.0 (unwritten_behind ys x q both.1 other)
+unwritten_behind (y ∷ ys) x q none other =
+    let both = or_parts (is_at q y) (is_written ys q) none in or_from (is_at q y) (is_written (ys ++ x ∷ []) q) both.0 (unwritten_behind ys x q both.1 other)
 
 apart_behind : (xs : List Write) (x : Write) → AreApart xs → is_written xs (path_of x) ≡ false → AreApart (xs ++ x ∷ [])
 apart_behind [] x apart none = (refl, tt)
@@ -153,7 +165,8 @@ module _ (xs ys : List Write) (x : Write) (is : ys ≡ with_last xs x) where
   set_done w = rw is (written_last w xs x)
 
 pub removed_absent : (w : World) (path : List ℕ) → None ≡ map.get w path → w ≡ map.remove w path
-removed_absent w path absent = same_world w (map.remove w path) (λ q. at q (eq_by_cmp path_cmp q path) refl ∙ sym (get-remove nat_list_cmp_total w path q))
+removed_absent w path absent =
+    same_world w (map.remove w path) (λ q. at q (eq_by_cmp path_cmp q path) refl ∙ sym (get-remove nat_list_cmp_total w path q))
   where
     at : (q : List ℕ) (b : Bool) → eq_by_cmp path_cmp q path ≡ b → map.get w q ≡ cond (eq_by_cmp path_cmp q path) None (map.get w q)
     at q true same = rw same (ap (map.get w) (same_path q path same) ∙ sym absent)

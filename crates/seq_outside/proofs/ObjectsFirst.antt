@@ -74,10 +74,12 @@ there_itself : (w : World) (path bytes : List ℕ) → map.contains_key (map.ins
 there_itself w path bytes = ap is_some (first_stays w (Put path bytes) [] path (equal_to_itself path) refl)
 
 -- a removal in front of a put that it does not free
-freed : (w : World) (p q : List ℕ) → is_about_objects p ≡ false → is_object_file q ≡ true → is_blocked (map.remove w p) q ≡ false → is_blocked w q ≡ false
+freed : (w : World) (p q : List ℕ) → is_about_objects p ≡ false → is_object_file q ≡ true → is_blocked (map.remove w p) q ≡ false
+    → is_blocked w q ≡ false
 freed w p q other object free = free_from w q (λ file there. at file there (eq_by_cmp path_cmp file p) refl)
   where
-    at : (file : List ℕ) → map.contains_key w file ≡ true → (b : Bool) → eq_by_cmp path_cmp file p ≡ b → (is_below q file ≡ false) × (is_below file q ≡ false)
+    at : (file : List ℕ) → map.contains_key w file ≡ true → (b : Bool) → eq_by_cmp path_cmp file p ≡ b
+        → (is_below q file ≡ false) × (is_below file q ≡ false)
     at file there true same =
         let is = same_path file p same in
         rw is (clear_by (is_below q p) (is_about_objects p) other (bars_below q p object), clear_by (is_below p q) (is_about_objects p) other (bars_above q p object))
@@ -85,7 +87,8 @@ freed w p q other object free = free_from w q (λ file there. at file there (eq_
         free_of (map.remove w p) q file free
         (ap is_some (get_after w (Remove p) file ∙ ap (λ (b : Bool). cond b (left_by (Remove p)) (map.get w file)) apart) ∙ there)
 
-pub passed_free : (w : World) (x y : Write) → MayPass x y → is_free w x ≡ true → is_free (after w x) y ≡ true → (is_free w y ≡ true) × (is_free (after w y) x ≡ true)
+pub passed_free : (w : World) (x y : Write) → MayPass x y → is_free w x ≡ true → is_free (after w x) y ≡ true
+    → (is_free w y ≡ true) × (is_free (after w y) x ≡ true)
 passed_free w (Remove p) (Remove q) pass first second = (refl, refl)
 passed_free w (Put p bytes) (Remove q) pass first second =
     let free = not-true (is_blocked w p) first in
@@ -104,8 +107,10 @@ passed_world w x y apart = same_world (after (after w y) x) (after (after w x) y
     get_after (after w y) x q ∙ ap (cond (is_at q x) (left_by x)) (get_after w y q) ∙ at q (is_at q x) (is_at q y) refl refl
     ∙ sym (get_after (after w x) y q ∙ ap (cond (is_at q y) (left_by y)) (get_after w x q)))
   where
-    at : (q : List ℕ) (b c : Bool) → is_at q x ≡ b → is_at q y ≡ c → cond b (left_by x) (cond c (left_by y) (map.get w q)) ≡ cond c (left_by y) (cond b (left_by x) (map.get w q))
-    at q true true here there = absurd (both_ways (is_at (path_of x) y) apart (ap (λ (p : List ℕ). is_at p y) (sym (same_path q (path_of x) here)) ∙ there))
+    at : (q : List ℕ) (b c : Bool) → is_at q x ≡ b → is_at q y ≡ c
+        → cond b (left_by x) (cond c (left_by y) (map.get w q)) ≡ cond c (left_by y) (cond b (left_by x) (map.get w q))
+    at q true true here there =
+        absurd (both_ways (is_at (path_of x) y) apart (ap (λ (p : List ℕ). is_at p y) (sym (same_path q (path_of x) here)) ∙ there))
     at q true false here there = refl
     at q false true here there = refl
     at q false false here there = refl
@@ -127,15 +132,18 @@ behind_free w x (y ∷ ys) zs pass free =
 
 behind_world : (w : World) (x : Write) (ys zs : List Write) → MayPassAll x ys → written w (ys ++ x ∷ zs) ≡ written w (x ∷ ys ++ zs)
 behind_world w x [] zs pass = refl
-behind_world w x (y ∷ ys) zs pass = behind_world (after w y) x ys zs pass.1 ∙ ap (λ (v : World). written v (ys ++ zs)) (passed_world w x y pass.0.apart)
+behind_world w x (y ∷ ys) zs pass =
+    behind_world (after w y) x ys zs pass.1 ∙ ap (λ (v : World). written v (ys ++ zs)) (passed_world w x y pass.0.apart)
 
 -- ---- all changes
 
 may_pass_all : (x : Write) (xs : List Write) → is_of_objects x ≡ false → is_written xs (path_of x) ≡ false → MayPassAll x (filter is_of_objects xs)
 may_pass_all x [] other none = tt
-may_pass_all x (y ∷ ys) other none = let both = or_parts (is_at (path_of x) y) (is_written ys (path_of x)) none in at both.0 (may_pass_all x ys other both.1) (is_of_objects y) refl
+may_pass_all x (y ∷ ys) other none =
+    let both = or_parts (is_at (path_of x) y) (is_written ys (path_of x)) none in at both.0 (may_pass_all x ys other both.1) (is_of_objects y) refl
   where
-    at : is_at (path_of x) y ≡ false → MayPassAll x (filter is_of_objects ys) → (b : Bool) → is_of_objects y ≡ b → MayPassAll x (cond b (y ∷ filter is_of_objects ys) (filter is_of_objects ys))
+    at : is_at (path_of x) y ≡ false → MayPassAll x (filter is_of_objects ys) → (b : Bool) → is_of_objects y ≡ b
+        → MayPassAll x (cond b (y ∷ filter is_of_objects ys) (filter is_of_objects ys))
     at apart later true object = (record { apart = apart; other = other; object = object }, later)
     at apart later false _ = later
 
@@ -173,50 +181,61 @@ unwritten_filtered p (x ∷ xs) q none = let both = or_parts (is_at q x) (is_wri
     at here later false = later
 
 about : (q : List ℕ) (x : Write) → is_at q x ≡ true → is_of_objects x ≡ true → is_about_objects q ≡ true
-about q (Put path bytes) here object = or_left (is_object_file q) (is_below q (codes ".git/objects/")) (ap is_object_file (same_path q path here) ∙ object)
+about q (Put path bytes) here object =
+    or_left (is_object_file q) (is_below q (codes ".git/objects/")) (ap is_object_file (same_path q path here) ∙ object)
 about q (Remove path) here object = ap is_about_objects (same_path q path here) ∙ object
 
 object_changed : (q : List ℕ) (x : Write) → is_at q x ≡ true → is_object_file q ≡ true → is_of_objects x ≡ true
 object_changed q (Put path bytes) here object = ap is_object_file (sym (same_path q path here)) ∙ object
-object_changed q (Remove path) here object = ap is_about_objects (sym (same_path q path here)) ∙ or_left (is_object_file q) (is_below q (codes ".git/objects/")) object
+object_changed q (Remove path) here object =
+    ap is_about_objects (sym (same_path q path here)) ∙ or_left (is_object_file q) (is_below q (codes ".git/objects/")) object
 
 -- files that are not about objects are named by no change of objects, and objects by no other change
 objects_named : (xs : List Write) (q : List ℕ) → is_about_objects q ≡ false → is_written (filter is_of_objects xs) q ≡ false
 objects_named [] q other = refl
 objects_named (x ∷ xs) q other = at (objects_named xs q other) (is_of_objects x) refl
   where
-    at : is_written (filter is_of_objects xs) q ≡ false → (b : Bool) → is_of_objects x ≡ b → is_written (cond b (x ∷ filter is_of_objects xs) (filter is_of_objects xs)) q ≡ false
-    at later true object = or_from (is_at q x) (is_written (filter is_of_objects xs) q) (clear_by (is_at q x) (is_about_objects q) other (λ here. about q x here object)) later
+    at : is_written (filter is_of_objects xs) q ≡ false → (b : Bool) → is_of_objects x ≡ b
+        → is_written (cond b (x ∷ filter is_of_objects xs) (filter is_of_objects xs)) q ≡ false
+    at later true object =
+        or_from (is_at q x) (is_written (filter is_of_objects xs) q) (clear_by (is_at q x) (is_about_objects q) other (λ here. about q x here object)) later
     at later false _ = later
 
 others_named : (xs : List Write) (q : List ℕ) → is_object_file q ≡ true → is_written (filter is_of_others xs) q ≡ false
 others_named [] q object = refl
 others_named (x ∷ xs) q object = at (others_named xs q object) (is_of_objects x) refl
   where
-    at : is_written (filter is_of_others xs) q ≡ false → (b : Bool) → is_of_objects x ≡ b → is_written (cond (not b) (x ∷ filter is_of_others xs) (filter is_of_others xs)) q ≡ false
+    at : is_written (filter is_of_others xs) q ≡ false → (b : Bool) → is_of_objects x ≡ b
+        → is_written (cond (not b) (x ∷ filter is_of_others xs) (filter is_of_others xs)) q ≡ false
     at later true _ = later
-    at later false other = or_from (is_at q x) (is_written (filter is_of_others xs) q) (clear_by (is_at q x) (is_of_objects x) other (λ here. object_changed q x here object)) later
+    at later false other =
+        or_from (is_at q x) (is_written (filter is_of_others xs) q) (clear_by (is_at q x) (is_of_objects x) other (λ here. object_changed q x here object)) later
 
 -- after the first of some changes of other files a file is as before, or as after all
 pub unwritten_taken : (n : ℕ) (xs : List Write) (q : List ℕ) → is_written xs q ≡ false → is_written (take n xs) q ≡ false
 unwritten_taken zero xs q none = refl
 unwritten_taken (suc n) [] q none = refl
-unwritten_taken (suc n) (x ∷ xs) q none = let both = or_parts (is_at q x) (is_written xs q) none in or_from (is_at q x) (is_written (take n xs) q) both.0 (unwritten_taken n xs q both.1)
+unwritten_taken (suc n) (x ∷ xs) q none =
+    let both = or_parts (is_at q x) (is_written xs q) none in or_from (is_at q x) (is_written (take n xs) q) both.0 (unwritten_taken n xs q both.1)
 
-pub front_between : (w : World) (n : ℕ) (xs : List Write) → AreApart xs → (q : List ℕ) → (map.get (written w (take n xs)) q ≡ map.get w q) ⊎ (map.get (written w (take n xs)) q ≡ map.get (written w xs) q)
+pub front_between : (w : World) (n : ℕ) (xs : List Write) → AreApart xs → (q : List ℕ)
+    → (map.get (written w (take n xs)) q ≡ map.get w q) ⊎ (map.get (written w (take n xs)) q ≡ map.get (written w xs) q)
 front_between w zero xs apart q = inl refl
 front_between w (suc n) [] apart q = inl refl
 front_between w (suc n) (x ∷ xs) apart q = at (is_at q x) refl (front_between (after w x) n xs apart.1 q)
   where
-    at : (b : Bool) → is_at q x ≡ b → (map.get (written (after w x) (take n xs)) q ≡ map.get (after w x) q) ⊎ (map.get (written (after w x) (take n xs)) q ≡ map.get (written (after w x) xs) q)
+    at : (b : Bool) → is_at q x ≡ b
+        → (map.get (written (after w x) (take n xs)) q ≡ map.get (after w x) q) ⊎ (map.get (written (after w x) (take n xs)) q ≡ map.get (written (after w x) xs) q)
         → (map.get (written (after w x) (take n xs)) q ≡ map.get w q) ⊎ (map.get (written (after w x) (take n xs)) q ≡ map.get (written (after w x) xs) q)
     at b here (inr all) = inr all
-    at true here (inl first) = inr (first_stays w x (take n xs) q here (unwritten_taken n xs (path_of x) apart.0) ∙ sym (first_stays w x xs q here apart.0))
+    at true here (inl first) =
+        inr (first_stays w x (take n xs) q here (unwritten_taken n xs (path_of x) apart.0) ∙ sym (first_stays w x xs q here apart.0))
     at false other (inl first) = inl (first ∙ get_after w x q ∙ ap (λ (b : Bool). cond b (left_by x) (map.get w q)) other)
 
 pub named-append : (xs ys : List Write) (q : List ℕ) → is_written xs q ≡ false → is_written ys q ≡ false → is_written (xs ++ ys) q ≡ false
 named-append [] ys q none others = others
-named-append (x ∷ xs) ys q none others = let both = or_parts (is_at q x) (is_written xs q) none in or_from (is_at q x) (is_written (xs ++ ys) q) both.0 (named-append xs ys q both.1 others)
+named-append (x ∷ xs) ys q none others =
+    let both = or_parts (is_at q x) (is_written xs q) none in or_from (is_at q x) (is_written (xs ++ ys) q) both.0 (named-append xs ys q both.1 others)
 
 apart_between : (x : Write) (xs ys : List Write) → AreApart (xs ++ ys) → is_written (xs ++ ys) (path_of x) ≡ false → AreApart (xs ++ x ∷ ys)
 apart_between x [] ys apart none = (none, apart)
@@ -224,7 +243,8 @@ apart_between x (y ∷ xs) ys apart none =
     let both = or_parts (is_at (path_of x) y) (is_written (xs ++ ys) (path_of x)) none in
     (between xs apart.0 (apart_back x y both.0), apart_between x xs ys apart.1 both.1)
   where
-    between : (zs : List Write) → is_written (zs ++ ys) (path_of y) ≡ false → is_at (path_of y) x ≡ false → is_written (zs ++ x ∷ ys) (path_of y) ≡ false
+    between : (zs : List Write) → is_written (zs ++ ys) (path_of y) ≡ false → is_at (path_of y) x ≡ false
+        → is_written (zs ++ x ∷ ys) (path_of y) ≡ false
     between [] none other = or_from (is_at (path_of y) x) (is_written ys (path_of y)) other none
     between (z ∷ zs) none other =
         let both = or_parts (is_at (path_of y) z) (is_written (zs ++ ys) (path_of y)) none in
@@ -235,7 +255,8 @@ first_apart [] apart = tt
 first_apart (x ∷ xs) apart = at (first_apart xs apart.1) none (is_of_objects x)
   where
     none : is_written (objects_first xs) (path_of x) ≡ false
-    none = named-append (filter is_of_objects xs) (filter is_of_others xs) (path_of x) (unwritten_filtered is_of_objects xs (path_of x) apart.0) (unwritten_filtered is_of_others xs (path_of x) apart.0)
+    none =
+        named-append (filter is_of_objects xs) (filter is_of_others xs) (path_of x) (unwritten_filtered is_of_objects xs (path_of x) apart.0) (unwritten_filtered is_of_others xs (path_of x) apart.0)
 
     at : AreApart (objects_first xs) → is_written (objects_first xs) (path_of x) ≡ false → (b : Bool)
         → AreApart (cond b (x ∷ filter is_of_objects xs) (filter is_of_objects xs) ++ cond (not b) (x ∷ filter is_of_others xs) (filter is_of_others xs))
@@ -278,12 +299,15 @@ module _ (old : World) (xs : List Write) (apart : AreApart xs) where
       objects = objects;
     }
       where
-        at : (q : List ℕ) → (map.get (written old (take front.made (objects_first xs))) q ≡ map.get old q) ⊎ (map.get (written old (take front.made (objects_first xs))) q ≡ map.get (written old (objects_first xs)) q) → (map.get now q ≡ map.get old q) ⊎ (map.get now q ≡ map.get (written old xs) q)
+        at : (q : List ℕ)
+            → (map.get (written old (take front.made (objects_first xs))) q ≡ map.get old q) ⊎ (map.get (written old (take front.made (objects_first xs))) q ≡ map.get (written old (objects_first xs)) q)
+            → (map.get now q ≡ map.get old q) ⊎ (map.get now q ≡ map.get (written old xs) q)
         at q (inl same) = inl (ap (λ (w : World). map.get w q) front.is ∙ same)
         at q (inr aimed) = inr (ap (λ (w : World). map.get w q) front.is ∙ aimed ∙ ap (λ (w : World). map.get w q) (first_world old xs apart))
 
   pub objects_front : (now : World) → IsFront old object_writes now → IsFront old (objects_first xs) now
-  objects_front now front = let all = take_front front.made object_writes other_writes in record { made = all.0; is = front.is ∙ ap (written old) all.1 }
+  objects_front now front =
+      let all = take_front front.made object_writes other_writes in record { made = all.0; is = front.is ∙ ap (written old) all.1 }
 
   pub among_objects : (now : World) → IsFront old object_writes now → IsOnTheWay old (written old xs) now
   among_objects now front =
@@ -309,10 +333,12 @@ module _ (old : World) (xs : List Write) (apart : AreApart xs) where
         ∙ ap (λ (w : World). map.get w q) (sym (written-append old object_writes other_writes) ∙ first_world old xs apart)))
 
   pub all_made : (mid now : World) → mid ≡ written old object_writes → now ≡ written mid other_writes → now ≡ written old xs
-  all_made mid now mid_is is = is ∙ ap (λ (w : World). written w other_writes) mid_is ∙ sym (written-append old object_writes other_writes) ∙ first_world old xs apart
+  all_made mid now mid_is is =
+      is ∙ ap (λ (w : World). written w other_writes) mid_is ∙ sym (written-append old object_writes other_writes) ∙ first_world old xs apart
 
   pub objects_free : are_free old xs ≡ true → are_free old object_writes ≡ true
   objects_free free = (free-append old object_writes other_writes (first_free old xs apart free)).0
 
   pub others_free : (mid : World) → mid ≡ written old object_writes → are_free old xs ≡ true → are_free mid other_writes ≡ true
-  others_free mid mid_is free = ap (λ (w : World). are_free w other_writes) mid_is ∙ (free-append old object_writes other_writes (first_free old xs apart free)).1
+  others_free mid mid_is free =
+      ap (λ (w : World). are_free w other_writes) mid_is ∙ (free-append old object_writes other_writes (first_free old xs apart free)).1

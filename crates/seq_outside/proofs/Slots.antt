@@ -33,26 +33,34 @@ unplaced n [] path e = refl
 unplaced n (None ∷ slots) path e = unplaced (n + 1) slots path e
 unplaced n (Some x ∷ slots) path e = at (unplaced (n + 1) slots path) (is_at path x) e
   where
-    at : (place_from (n + 1) slots path ≡ None → is_written (kept slots) path ≡ false) → (b : Bool) → cond b (Some n) (place_from (n + 1) slots path) ≡ None → b || is_written (kept slots) path ≡ false
+    at : (place_from (n + 1) slots path ≡ None → is_written (kept slots) path ≡ false) → (b : Bool)
+        → cond b (Some n) (place_from (n + 1) slots path) ≡ None → b || is_written (kept slots) path ≡ false
     at later true e = absurd cc
     at later false e = later e
 
 nowhere : (n : ℕ) (slots : List (Option Write)) (path : List ℕ) → is_written (kept slots) path ≡ false → place_from n slots path ≡ None
 nowhere n [] path e = refl
 nowhere n (None ∷ slots) path e = nowhere (n + 1) slots path e
-nowhere n (Some x ∷ slots) path e = let both = or_parts (is_at path x) (is_written (kept slots) path) e in rw both.0 (nowhere (n + 1) slots path both.1)
+nowhere n (Some x ∷ slots) path e =
+    let both = or_parts (is_at path x) (is_written (kept slots) path) e in rw both.0 (nowhere (n + 1) slots path both.1)
 
-place-append : (n : ℕ) (slots : List (Option Write)) (x : Write) (path : List ℕ) → place_from n slots path ≡ None → place_from n (slots ++ Some x ∷ []) path ≡ cond (is_at path x) (Some (n + length slots)) None
+place-append : (n : ℕ) (slots : List (Option Write)) (x : Write) (path : List ℕ) → place_from n slots path ≡ None
+    → place_from n (slots ++ Some x ∷ []) path ≡ cond (is_at path x) (Some (n + length slots)) None
 place-append n [] x path e = let k : n ≡ n + 0 = omega arith in ap (λ (m : ℕ). cond (is_at path x) (Some m) None) k
-place-append n (None ∷ slots) x path e = let k : n + 1 + length slots ≡ n + suc (length slots) = omega arith in place-append (n + 1) slots x path e ∙ ap (λ (m : ℕ). cond (is_at path x) (Some m) None) k
+place-append n (None ∷ slots) x path e =
+    let k : n + 1 + length slots ≡ n + suc (length slots) = omega arith in place-append (n + 1) slots x path e
+    ∙ ap (λ (m : ℕ). cond (is_at path x) (Some m) None) k
 place-append n (Some y ∷ slots) x path e = at (place-append (n + 1) slots x path) (is_at path y) e
   where
-    at : (place_from (n + 1) slots path ≡ None → place_from (n + 1) (slots ++ Some x ∷ []) path ≡ cond (is_at path x) (Some (n + 1 + length slots)) None) → (b : Bool) → cond b (Some n) (place_from (n + 1) slots path) ≡ None
+    at : (place_from (n + 1) slots path ≡ None → place_from (n + 1) (slots ++ Some x ∷ []) path ≡ cond (is_at path x) (Some (n + 1 + length slots)) None)
+        → (b : Bool) → cond b (Some n) (place_from (n + 1) slots path) ≡ None
         → cond b (Some n) (place_from (n + 1) (slots ++ Some x ∷ []) path) ≡ cond (is_at path x) (Some (n + suc (length slots))) None
     at later true e = absurd cc
-    at later false e = let k : n + 1 + length slots ≡ n + suc (length slots) = omega arith in later e ∙ ap (λ (m : ℕ). cond (is_at path x) (Some m) None) k
+    at later false e =
+        let k : n + 1 + length slots ≡ n + suc (length slots) = omega arith in later e ∙ ap (λ (m : ℕ). cond (is_at path x) (Some m) None) k
 
-place-other : (n : ℕ) (slots : List (Option Write)) (x : Write) (path : List ℕ) → is_at path x ≡ false → place_from n (slots ++ Some x ∷ []) path ≡ place_from n slots path
+place-other : (n : ℕ) (slots : List (Option Write)) (x : Write) (path : List ℕ) → is_at path x ≡ false
+    → place_from n (slots ++ Some x ∷ []) path ≡ place_from n slots path
 place-other n [] x path other = rw other refl
 place-other n (None ∷ slots) x path other = place-other (n + 1) slots x path other
 place-other n (Some y ∷ slots) x path other = ap (cond (is_at path y) (Some n)) (place-other (n + 1) slots x path other)
@@ -88,7 +96,8 @@ placed n (None ∷ slots) path place e =
     }
 placed n (Some x ∷ slots) path place e = at (placed (n + 1) slots path place) (is_at path x) refl e
   where
-    at : (place_from (n + 1) slots path ≡ Some place → IsPlaced (n + 1) slots path place) → (b : Bool) → is_at path x ≡ b → cond b (Some n) (place_from (n + 1) slots path) ≡ Some place → IsPlaced n (Some x ∷ slots) path place
+    at : (place_from (n + 1) slots path ≡ Some place → IsPlaced (n + 1) slots path place) → (b : Bool) → is_at path x ≡ b
+        → cond b (Some n) (place_from (n + 1) slots path) ≡ Some place → IsPlaced n (Some x ∷ slots) path place
     at later true here e =
         let k : n ≡ place = cc in
         record {
@@ -98,7 +107,8 @@ placed n (Some x ∷ slots) path place e = at (placed (n + 1) slots path place) 
           write = x;
           is = λ d. refl;
           here = here;
-          cleared = λ apart. rw here (sym (without_none path (kept slots) (ap (is_written (kept slots)) (same_path path (path_of x) here) ∙ apart.0)));
+          cleared =
+              λ apart. rw here (sym (without_none path (kept slots) (ap (is_written (kept slots)) (same_path path (path_of x) here) ∙ apart.0)));
           named = or_left (is_at path x) (is_written (kept slots) path) here;
           leaves = λ apart w. first_stays w x (kept slots) path here apart.0;
           others = λ m q other. rw (other_path path q x here other) refl;
@@ -144,10 +154,13 @@ changed slots less x places new changes path kept_is long others none updates =
     record {
       apart = subst AreApart (sym is) (apart_last (kept slots) x changes.apart);
       paths = subst (AllByRecursion HasStorePath) (sym is) (all_last HasStorePath (kept slots) x changes.paths path);
-      placed = λ q. updates.0 q ∙ ap (λ (b : Bool). cond b (Some (length slots)) (get path_cmp places q)) (turned (path_of x) q) ∙ at q (eq_by_cmp path_cmp q (path_of x)) refl;
+      placed =
+          λ q. updates.0 q ∙ ap (λ (b : Bool). cond b (Some (length slots)) (get path_cmp places q)) (turned (path_of x) q)
+          ∙ at q (eq_by_cmp path_cmp q (path_of x)) refl;
     }
   where
-    at : (q : List ℕ) (b : Bool) → eq_by_cmp path_cmp q (path_of x) ≡ b → cond b (Some (length slots)) (get path_cmp places q) ≡ place_from 0 (less ++ Some x ∷ []) q
+    at : (q : List ℕ) (b : Bool) → eq_by_cmp path_cmp q (path_of x) ≡ b
+        → cond b (Some (length slots)) (get path_cmp places q) ≡ place_from 0 (less ++ Some x ∷ []) q
     at q true same =
         let gone = ap (place_from 0 less) (same_path q (path_of x) same) ∙ nowhere 0 less (path_of x) none in
         let is : 0 + length less ≡ length slots = omega (arith, long) in
@@ -185,7 +198,8 @@ module _ (slots : List (Option Write)) (x : Write) (places new : BTreeMap (List 
             (ap (λ (xs : List Write). is_written xs (path_of x)) less ∙ path_without (path_of x) (kept slots)) updates);
       }
 
-pub popped : (slots all rest : List (Option Write)) (x : Option Write) (n : ℕ) → all ≡ slots ++ x ∷ [] → n ≡ length all → rest ≡ take (n - 1) all → rest ≡ slots
+pub popped : (slots all rest : List (Option Write)) (x : Option Write) (n : ℕ) → all ≡ slots ++ x ∷ [] → n ≡ length all → rest ≡ take (n - 1) all
+    → rest ≡ slots
 popped slots all rest x n is long e =
     let more = length-append slots (x ∷ []) in
     let k : n ≡ length (slots ++ x ∷ []) = long ∙ ap length is in
@@ -196,7 +210,8 @@ popped slots all rest x n is long e =
     front [] = refl
     front (y ∷ slots) = ap (λ (zs : List (Option Write)). y ∷ zs) (front slots)
 
-pub unchanged : (slots : List (Option Write)) (places new : BTreeMap (List ℕ) ℕ) → AreChanges slots places → new.entries ≡ places.entries → AreChanges slots new
+pub unchanged : (slots : List (Option Write)) (places new : BTreeMap (List ℕ) ℕ) → AreChanges slots places → new.entries ≡ places.entries
+    → AreChanges slots new
 unchanged slots places new old same = record {
   apart = old.apart;
   paths = old.paths;
@@ -221,7 +236,8 @@ module _ {R : Type 0} (now : R → Write) where
   never P (Some x) o e some = tt
 
 -- what the place of a path's slot says
-pub at_place : (slots : List (Option Write)) (places : BTreeMap (List ℕ) ℕ) (path : List ℕ) (place : ℕ) (write : Option Write) (d : Option Write) → AreChanges slots places → Some place ≡ get path_cmp places path → write ≡ get_or slots place d
+pub at_place : (slots : List (Option Write)) (places : BTreeMap (List ℕ) ℕ) (path : List ℕ) (place : ℕ) (write : Option Write) (d : Option Write)
+    → AreChanges slots places → Some place ≡ get path_cmp places path → write ≡ get_or slots place d
     → (place < length slots) × IfSome write (λ x. (w : World) → map.get (written w (kept slots)) path ≡ left_by x) × (write ≡ None → ⊥) × (is_written (kept slots) path ≡ true)
 at_place slots places path place write d all e is =
     let p = placed 0 slots path place (sym (all.placed path) ∙ sym e) in
@@ -229,10 +245,12 @@ at_place slots places path place write d all e is =
     let some : write ≡ Some p.write = is ∙ ap (λ (i : ℕ). get_or slots i d) here ∙ p.is d in
     (omega (arith, here, p.within), subst (λ (o : Option Write). IfSome o (λ x. (w : World) → map.get (written w (kept slots)) path ≡ left_by x)) (sym some) (p.leaves all.apart), λ none. absurd (let k : None ≡ Some p.write = sym none ∙ some in cc), p.named)
 
-pub found : (slots : List (Option Write)) (places : BTreeMap (List ℕ) ℕ) (path : List ℕ) (place : ℕ) → AreChanges slots places → Some place ≡ get path_cmp places path → IsPlaced 0 slots path place
+pub found : (slots : List (Option Write)) (places : BTreeMap (List ℕ) ℕ) (path : List ℕ) (place : ℕ) → AreChanges slots places
+    → Some place ≡ get path_cmp places path → IsPlaced 0 slots path place
 found slots places path place all e = placed 0 slots path place (sym (all.placed path) ∙ sym e)
 
-pub absent : (slots : List (Option Write)) (places : BTreeMap (List ℕ) ℕ) (path : List ℕ) → AreChanges slots places → None ≡ get path_cmp places path → is_written (kept slots) path ≡ false
+pub absent : (slots : List (Option Write)) (places : BTreeMap (List ℕ) ℕ) (path : List ℕ) → AreChanges slots places → None ≡ get path_cmp places path
+    → is_written (kept slots) path ≡ false
 absent slots places path all e = unplaced 0 slots path (sym (all.placed path) ∙ sym e)
 
 pub kept_below : (folder : List ℕ) (slots : List (Option Write)) → list_any (slot_puts_below folder) slots ≡ list_any (puts_below folder) (kept slots)
@@ -248,7 +266,8 @@ chosen_objects [] = refl
 chosen_objects (None ∷ slots) = chosen_objects slots
 chosen_objects (Some x ∷ slots) = at (chosen_objects slots) (is_of_objects x)
   where
-    at : all_chosen true slots ≡ filter is_of_objects (kept slots) → (b : Bool) → kept (cond b (Some x) None ∷ map_list (chosen true) slots) ≡ cond b (x ∷ filter is_of_objects (kept slots)) (filter is_of_objects (kept slots))
+    at : all_chosen true slots ≡ filter is_of_objects (kept slots) → (b : Bool)
+        → kept (cond b (Some x) None ∷ map_list (chosen true) slots) ≡ cond b (x ∷ filter is_of_objects (kept slots)) (filter is_of_objects (kept slots))
     at later true = ap (λ (zs : List Write). x ∷ zs) later
     at later false = later
 
@@ -257,14 +276,18 @@ chosen_others [] = refl
 chosen_others (None ∷ slots) = chosen_others slots
 chosen_others (Some x ∷ slots) = at (chosen_others slots) (is_of_objects x)
   where
-    at : all_chosen false slots ≡ filter is_of_others (kept slots) → (b : Bool) → kept (cond b None (Some x) ∷ map_list (chosen false) slots) ≡ cond (not b) (x ∷ filter is_of_others (kept slots)) (filter is_of_others (kept slots))
+    at : all_chosen false slots ≡ filter is_of_others (kept slots) → (b : Bool)
+        → kept (cond b None (Some x) ∷ map_list (chosen false) slots) ≡ cond (not b) (x ∷ filter is_of_others (kept slots)) (filter is_of_others (kept slots))
     at later true = later
     at later false = ap (λ (zs : List Write). x ∷ zs) later
 
-pub slot_path : (slots : List (Option Write)) (slot : Option Write) → 0 < length slots → slot ≡ get_or slots 0 slot → AllByRecursion HasStorePath (kept slots) → SlotHasPath slot × AllByRecursion HasStorePath (kept (take (length slots - 1) (drop 1 slots)))
-slot_path slots slot some is paths = at slot (subst (λ (s : List (Option Write)). AllByRecursion HasStorePath (kept s)) (first_and_others slots slot some is) paths)
+pub slot_path : (slots : List (Option Write)) (slot : Option Write) → 0 < length slots → slot ≡ get_or slots 0 slot
+    → AllByRecursion HasStorePath (kept slots) → SlotHasPath slot × AllByRecursion HasStorePath (kept (take (length slots - 1) (drop 1 slots)))
+slot_path slots slot some is paths =
+    at slot (subst (λ (s : List (Option Write)). AllByRecursion HasStorePath (kept s)) (first_and_others slots slot some is) paths)
   where
-    at : (slot : Option Write) → AllByRecursion HasStorePath (kept (slot ∷ take (length slots - 1) (drop 1 slots))) → SlotHasPath slot × AllByRecursion HasStorePath (kept (take (length slots - 1) (drop 1 slots)))
+    at : (slot : Option Write) → AllByRecursion HasStorePath (kept (slot ∷ take (length slots - 1) (drop 1 slots)))
+        → SlotHasPath slot × AllByRecursion HasStorePath (kept (take (length slots - 1) (drop 1 slots)))
     at None paths = (tt, paths)
     at (Some x) paths = paths
 
@@ -291,21 +314,25 @@ module _ (of_objects : Bool) (old now new : World) (writes : List Write) (slots 
       stays : new ≡ now → IsFront old writes new
       stays same = subst (IsFront old writes) (sym same) (on_the_way old now writes (all_chosen of_objects slots) way)
 
-      at : (e : StoreError) (slot : Option Write) → Way old now writes (with_slot slot) → SlotLeaves {T = ⊤} (Err e) now slot new → IsFront old writes new
+      at : (e : StoreError) (slot : Option Write) → Way old now writes (with_slot slot) → SlotLeaves {T = ⊤} (Err e) now slot new
+          → IsFront old writes new
       at e None way never = absurd never
       at Failed (Some write) way (inl same) = stays same
-      at Failed (Some write) way (inr made) = subst (IsFront old writes) (sym made.1) (on_the_way old (Writes.after now write) writes rest (goes_on old now writes write rest way))
+      at Failed (Some write) way (inr made) =
+          subst (IsFront old writes) (sym made.1) (on_the_way old (Writes.after now write) writes rest (goes_on old now writes write rest way))
       at Blocked (Some write) way leaves = stays leaves.1
       at Memory (Some write) way same = stays same
 
   pub slot_free : (e : StoreError) → e ≡ Blocked → SlotLeaves {T = ⊤} (Err e) now (chosen of_objects slot) new → are_free old writes ≡ true → ⊥
-  slot_free e is leaves free = at (chosen of_objects slot) here (subst (λ (e : StoreError). SlotLeaves {T = ⊤} (Err e) now (chosen of_objects slot) new) is leaves)
+  slot_free e is leaves free =
+      at (chosen of_objects slot) here (subst (λ (e : StoreError). SlotLeaves {T = ⊤} (Err e) now (chosen of_objects slot) new) is leaves)
     where
       at : (slot : Option Write) → Way old now writes (with_slot slot) → SlotLeaves {T = ⊤} (Err Blocked) now slot new → ⊥
       at None way never = never
       at (Some write) way leaves = next_free old now writes write rest way free leaves.0
 
-pub all_chosen_made : (of_objects : Bool) (old now : World) (writes : List Write) (slots : List (Option Write)) → length slots < 1 → Way old now writes (all_chosen of_objects slots) → now ≡ written old writes
+pub all_chosen_made : (of_objects : Bool) (old now : World) (writes : List Write) (slots : List (Option Write)) → length slots < 1
+    → Way old now writes (all_chosen of_objects slots) → now ≡ written old writes
 all_chosen_made of_objects old now writes [] none way = done old now writes [] way
 all_chosen_made of_objects old now writes (slot ∷ slots) none way = absurd (omega (arith, none))
 
@@ -319,7 +346,8 @@ module _ (old : World) (slots : List (Option Write)) (draft : is_draft (kept slo
   objects_part now front = among_objects old (kept slots) apart now (subst (λ (xs : List Write). IsFront old xs now) (chosen_objects slots) front)
 
   pub objects_part_front : (now : World) → IsFront old (all_chosen true slots) now → IsFront old (objects_first (kept slots)) now
-  objects_part_front now front = objects_front old (kept slots) apart now (subst (λ (xs : List Write). IsFront old xs now) (chosen_objects slots) front)
+  objects_part_front now front =
+      objects_front old (kept slots) apart now (subst (λ (xs : List Write). IsFront old xs now) (chosen_objects slots) front)
 
   pub objects_part_free : are_free old (kept slots) ≡ true → are_free old (all_chosen true slots) ≡ true
   objects_part_free free = ap (are_free old) (chosen_objects slots) ∙ objects_free old (kept slots) apart free
@@ -329,10 +357,12 @@ module _ (old : World) (slots : List (Option Write)) (draft : is_draft (kept slo
     made_is = made ∙ ap (written old) (chosen_objects slots)
 
     pub others_part : (now : World) → IsFront mid (all_chosen false slots) now → IsOnTheWay old (written old (kept slots)) now
-    others_part now front = among_others old (kept slots) apart mid now made_is (subst (λ (xs : List Write). IsFront mid xs now) (chosen_others slots) front)
+    others_part now front =
+        among_others old (kept slots) apart mid now made_is (subst (λ (xs : List Write). IsFront mid xs now) (chosen_others slots) front)
 
     pub others_part_front : (now : World) → IsFront mid (all_chosen false slots) now → IsFront old (objects_first (kept slots)) now
-    others_part_front now front = others_front old (kept slots) apart mid now made_is (subst (λ (xs : List Write). IsFront mid xs now) (chosen_others slots) front)
+    others_part_front now front =
+        others_front old (kept slots) apart mid now made_is (subst (λ (xs : List Write). IsFront mid xs now) (chosen_others slots) front)
 
     pub others_part_free : are_free old (kept slots) ≡ true → are_free mid (all_chosen false slots) ≡ true
     others_part_free free = ap (are_free mid) (chosen_others slots) ∙ others_free old (kept slots) apart mid made_is free

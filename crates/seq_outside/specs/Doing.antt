@@ -63,7 +63,8 @@ end_for told (Stops why) = Stops (told why)
 end_for told Starves = Starves
 
 abbrev pub saying : {P E F X : Type 0} → (E → F) → Does P E X → Does P F X
-saying told step spot coming = let first = step spot coming in record { end = end_for told first.end; spot = first.spot; coming = first.coming; asked = first.asked }
+saying told step spot coming =
+    let first = step spot coming in record { end = end_for told first.end; spot = first.spot; coming = first.coming; asked = first.asked }
 
 -- ---- with what the store holds
 

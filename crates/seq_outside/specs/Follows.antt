@@ -19,11 +19,14 @@ pub record Foretold {P E X : Type 0} (before : List Event → Type 0) (does : Do
   pub asked : asks this ≡ (does old (coming this)).asked (asks rest)
 
 -- From one spawner and clock to others the step ends so, whatever is seen after it.
-abbrev pub Comes : {A C P E X : Type 0} → (A → Noted → A → Type 0) → (C → ℤ → C → Type 0) → A → C → A → C → Does P E X → Spot P → End E X → Spot P → Type 0
-Comes {A} {C} ran ticked a c a' c' does old end new = (q : A) (d : C) (rest : List Event) → Sees ran ticked a' c' rest q d → Foretold (λ this. Sees ran ticked a c this q d) does old end new rest
+abbrev pub Comes : {A C P E X : Type 0} → (A → Noted → A → Type 0) → (C → ℤ → C → Type 0) → A → C → A → C → Does P E X → Spot P → End E X → Spot P
+    → Type 0
+Comes {A} {C} ran ticked a c a' c' does old end new =
+    (q : A) (d : C) (rest : List Event) → Sees ran ticked a' c' rest q d → Foretold (λ this. Sees ran ticked a c this q d) does old end new rest
 
 -- A call ends and leaves what the step does, its value seen by `view`, unless the store failed or memory ran out.
-abbrev pub Follows : {A C P E X Y : Type 0} → (A → Noted → A → Type 0) → (C → ℤ → C → Type 0) → A → C → A → C → (X → Y) → Does P E Y → Spot P → Result X (Halt E) → Spot P → Type 0
+abbrev pub Follows : {A C P E X Y : Type 0} → (A → Noted → A → Type 0) → (C → ℤ → C → Type 0) → A → C → A → C → (X → Y) → Does P E Y → Spot P
+    → Result X (Halt E) → Spot P → Type 0
 Follows ran ticked a c a' c' view does old (Ok x) new = Comes ran ticked a c a' c' does old (Goes (view x)) new
 Follows ran ticked a c a' c' view does old (Err (halts.Stops why)) new = Comes ran ticked a c a' c' does old (Stops why) new
 Follows ran ticked a c a' c' view does old (Err halts.Fault) new = Unit {0}
@@ -45,7 +48,8 @@ pub record Begun {P E X : Type 0} (before : List Event → Type 0) (start : Does
   pub same : Same this (start old (coming this)) rest (here now (coming rest))
 
 -- From one spawner and clock to others a loop has come from the one step to the other.
-abbrev pub ComesTo : {A C P E X : Type 0} → (A → Noted → A → Type 0) → (C → ℤ → C → Type 0) → A → C → A → C → Does P E X → Spot P → Does P E X → Spot P → Type 0
+abbrev pub ComesTo : {A C P E X : Type 0} → (A → Noted → A → Type 0) → (C → ℤ → C → Type 0) → A → C → A → C → Does P E X → Spot P → Does P E X
+    → Spot P → Type 0
 ComesTo {A} {C} ran ticked a c a' c' start old here now =
     (q : A) (d : C) (rest : List Event) → Sees ran ticked a' c' rest q d → Begun (λ this. Sees ran ticked a c this q d) start old here now rest
 

@@ -18,11 +18,13 @@ use Rattle.seq_outside.specs.declared.halt.Halt.{Halt}
 use Rattle.seq_outside.specs.declared.halt.Halt.TheVariants.{Stops, Fault, Memory}
 
 module _ (on : Head) (head id : Id) (commit : CommitFields) (ident : Text) (old mid new : World) (put : saying denied_git (object_put (commit_object commit)) old ≡ (Ok id, mid)) where
-  pub commit_made : saying denied_git (head_moved on id (pick_line head id ident commit.message)) mid ≡ (Ok tt, new) → with_commit on head commit ident old ≡ (Ok id, new)
+  pub commit_made : saying denied_git (head_moved on id (pick_line head id ident commit.message)) mid ≡ (Ok tt, new)
+      → with_commit on head commit ident old ≡ (Ok id, new)
   unfolding with_commit
   commit_made moved = rw (put, moved) refl
 
-  pub commit_stops : (halt : Halt Denial) → Turns {X = Unit {0}} {Y = Unit {0}} (λ x. x) (Err halt) (saying denied_git (head_moved on id (pick_line head id ident commit.message)) mid) new
+  pub commit_stops : (halt : Halt Denial)
+      → Turns {X = Unit {0}} {Y = Unit {0}} (λ x. x) (Err halt) (saying denied_git (head_moved on id (pick_line head id ident commit.message)) mid) new
       → Turns {X = Id} {Y = Id} (λ id. id) (Err halt) (with_commit on head commit ident old) new
   unfolding with_commit
   commit_stops (Stops why) is = rw (put, is) refl
@@ -30,7 +32,9 @@ module _ (on : Head) (head id : Id) (commit : CommitFields) (ident : Text) (old 
   commit_stops Memory is = tt
 
 -- a pick stops where its merge cannot be made
-pub prepared_stops : (finding : Finding) (halt : Halt Denial) (old new : World) → Turns {X = Id} {Y = Id} (λ id. id) (Err halt) (merge_made finding.merging old) new → Turns {X = Prepared} {Y = Definition} prepared_is (Err halt) (prepared_from finding old) new
+pub prepared_stops : (finding : Finding) (halt : Halt Denial) (old new : World)
+    → Turns {X = Id} {Y = Id} (λ id. id) (Err halt) (merge_made finding.merging old) new
+    → Turns {X = Prepared} {Y = Definition} prepared_is (Err halt) (prepared_from finding old) new
 unfolding prepared_from
 prepared_stops finding (Stops why) old new is = rw is refl
 prepared_stops finding Fault old new is = tt

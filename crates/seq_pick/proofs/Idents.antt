@@ -20,7 +20,8 @@ zone_fits (sign ∷ digits) h =
     and_from (length (sign ∷ digits) == 5 && is_sign sign) (list_all is_ascii_digit digits) (and_from (length (sign ∷ digits) == 5) (is_sign sign) (grind arith) two.0) one.1
 
 -- a commit by such an ident, of the author of another
-pub commit_value : (tree head : List ℕ) (picked : Commit) (ident : List ℕ) → IsCommitValue picked → IsSomeIdent ident → IsCommitValue (commit_on tree head picked ident)
+pub commit_value : (tree head : List ℕ) (picked : Commit) (ident : List ℕ) → IsCommitValue picked → IsSomeIdent ident
+    → IsCommitValue (commit_on tree head picked ident)
 commit_value tree head picked ident value who = record { author = value.author; committer = who; encoding = value.encoding }
 
 pub some_ident : (who : Ident) (text : List ℕ) → IsIdent who text → IsSomeIdent text

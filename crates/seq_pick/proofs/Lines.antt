@@ -62,7 +62,8 @@ plain (b ∷ l) h = and_from (not (b == 10)) (list_all (λ c. not (c == 10)) l) 
 
 -- the message of the line
 pub subject_plain : (message : List ℕ) → list_all (λ b. not (b == 10)) (codes "cherry-pick: " ++ subject message) ≡ true
-subject_plain message = rw (list_all-append (λ b. not (b == 10)) (codes "cherry-pick: ") (subject message)) (plain (subject message) (subject_line message))
+subject_plain message =
+    rw (list_all-append (λ b. not (b == 10)) (codes "cherry-pick: ") (subject message)) (plain (subject message) (subject_line message))
 
 old_value : (id : List ℕ) → IsOldValue (value_of id)
 old_value id = at (bytes_eq id (replicate 20 0)) refl

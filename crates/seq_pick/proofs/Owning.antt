@@ -20,10 +20,13 @@ pub owned_both : (old mid new : World) → Changes old mid → Changes mid new �
 owned_both old mid new first second = record { others = λ path not_own. second.others path not_own ∙ first.others path not_own }
 
 pub objects_owned : (old new : World) → ((path : Path) → is_object_place path ≡ false → map.get new path ≡ map.get old path) → Changes old new
-objects_owned old new elsewhere = record { others = λ path not_own. elsewhere path (false_from_ne_true (is_object_place path) (λ here. not_own (IsObject here))) }
+objects_owned old new elsewhere =
+    record { others = λ path not_own. elsewhere path (false_from_ne_true (is_object_place path) (λ here. not_own (IsObject here))) }
 
-pub message_owned : (old new : World) → ((path : Path) → eq_by_cmp path_cmp path message_path ≡ false → map.get new path ≡ map.get old path) → Changes old new
-message_owned old new elsewhere = record { others = λ path not_own. elsewhere path (false_from_ne_true (eq_by_cmp path_cmp path message_path) (λ here. not_own (IsMessage (same_path path message_path here)))) }
+pub message_owned : (old new : World) → ((path : Path) → eq_by_cmp path_cmp path message_path ≡ false → map.get new path ≡ map.get old path)
+    → Changes old new
+message_owned old new elsewhere =
+    record { others = λ path not_own. elsewhere path (false_from_ne_true (eq_by_cmp path_cmp path message_path) (λ here. not_own (IsMessage (same_path path message_path here)))) }
 
 pub switch_owned : (old new : World) → ((path : Path) → (IsOwn path → ⊥) → map.get new path ≡ map.get old path) → Changes old new
 switch_owned old new elsewhere = record { others = λ path not_own. elsewhere path (other path not_own) }
@@ -32,11 +35,15 @@ switch_owned old new elsewhere = record { others = λ path not_own. elsewhere pa
     other path not_own (inl index) = not_own (IsIndex index)
     other path not_own (inr is) = not_own (IsInWorktree is)
 
-pub head_owned : (on : Head) → IsHeadValue on → (old new : World) → ((path : Path) → IsElsewhere (moved_name on) path → map.get new path ≡ map.get old path) → Changes old new
+pub head_owned : (on : Head) → IsHeadValue on → (old new : World)
+    → ((path : Path) → IsElsewhere (moved_name on) path → map.get new path ≡ map.get old path) → Changes old new
 head_owned on is old new elsewhere = record {
   others = λ path not_own. elsewhere path (record {
-    ref = false_from_ne_true (eq_by_cmp path_cmp path (ref_path (moved_name on))) (λ here. not_own (IsRef (moved_name on, moved_is_name on is, inl (same_path path (ref_path (moved_name on)) here))));
-    log = false_from_ne_true (eq_by_cmp path_cmp path (log_path (moved_name on))) (λ here. not_own (IsRef (moved_name on, moved_is_name on is, inr (same_path path (log_path (moved_name on)) here))));
-    head = false_from_ne_true (eq_by_cmp path_cmp path (log_path head_name)) (λ here. not_own (IsRef (head_name, refl, inr (same_path path (log_path head_name) here))));
+    ref =
+        false_from_ne_true (eq_by_cmp path_cmp path (ref_path (moved_name on))) (λ here. not_own (IsRef (moved_name on, moved_is_name on is, inl (same_path path (ref_path (moved_name on)) here))));
+    log =
+        false_from_ne_true (eq_by_cmp path_cmp path (log_path (moved_name on))) (λ here. not_own (IsRef (moved_name on, moved_is_name on is, inr (same_path path (log_path (moved_name on)) here))));
+    head =
+        false_from_ne_true (eq_by_cmp path_cmp path (log_path head_name)) (λ here. not_own (IsRef (head_name, refl, inr (same_path path (log_path head_name) here))));
   });
 }

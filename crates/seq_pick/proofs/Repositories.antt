@@ -32,12 +32,15 @@ module _ (old new : World) (changes : Changes old new) where
   stood : (path : Path) → is_in_place path ≡ false → map.contains_key new path ≡ true → map.contains_key old path ≡ true
   stood path other there = sym (ap is_some (changes.others path (λ may. both_ways (is_in_place path) other (in_place path may)))) ∙ there
 
-  files : IsRepository old → (kept path : Path) → is_file_place (parts kept) ≡ true → map.contains_key new path ≡ true → (b : Bool) → is_in_place path ≡ b → is_below kept path ≡ false
+  files : IsRepository old → (kept path : Path) → is_file_place (parts kept) ≡ true → map.contains_key new path ≡ true → (b : Bool)
+      → is_in_place path ≡ b → is_below kept path ≡ false
   files is kept path place there true here = in_place_below kept path here place
   files is kept path place there false other = is.files kept path place (stood path other there)
 
-  folders : IsRepository old → (kept : Path) → is_folder_place (parts kept) ≡ true → map.contains_key new kept ≡ true → (b : Bool) → is_in_place kept ≡ b → ⊥
-  folders is kept place there true here = both_ways (is_folder_place (parts kept)) (not-true (is_folder_place (parts kept)) (and_parts (not (is_folder_place (parts kept))) _ here).0) place
+  folders : IsRepository old → (kept : Path) → is_folder_place (parts kept) ≡ true → map.contains_key new kept ≡ true → (b : Bool)
+      → is_in_place kept ≡ b → ⊥
+  folders is kept place there true here =
+      both_ways (is_folder_place (parts kept)) (not-true (is_folder_place (parts kept)) (and_parts (not (is_folder_place (parts kept))) _ here).0) place
   folders is kept place there false other = both_ways (map.contains_key old kept) (is.folders kept place) (stood kept other there)
 
   pub keeps_repository : IsWorld new → KeepsRepository old new
@@ -55,11 +58,13 @@ module _ (old new : World) (changes : Changes old new) where
 pub owned_between : (old aim now : World) → Changes old aim → IsBetween old aim now → Changes old now
 owned_between old aim now changes between = record { others = λ path not_own. at path (between path) (changes.others path not_own) }
   where
-    at : (path : Path) → (map.get now path ≡ map.get old path) ⊎ (map.get now path ≡ map.get aim path) → map.get aim path ≡ map.get old path → map.get now path ≡ map.get old path
+    at : (path : Path) → (map.get now path ≡ map.get old path) ⊎ (map.get now path ≡ map.get aim path) → map.get aim path ≡ map.get old path
+        → map.get now path ≡ map.get old path
     at path (inl same) aims = same
     at path (inr made) aims = made ∙ aims
 
 -- what a draft with a pick's own changes came to, over a store that is as it was
-pub owned_made : (old lent drafted aim now : World) → lent ≡ old → Changes old drafted → Changes drafted aim → IsOnTheWay lent aim now → Changes old now
+pub owned_made : (old lent drafted aim now : World) → lent ≡ old → Changes old drafted → Changes drafted aim → IsOnTheWay lent aim now
+    → Changes old now
 owned_made old lent drafted aim now same first second way =
     owned_between old aim now (owned_both old drafted aim first second) (subst (λ (w : World). IsBetween w aim now) same way.between)

@@ -35,18 +35,21 @@ IsDenied {Y} (halts.Stops denial) means w = means ≡ (Err denial, w)
 IsDenied {Y} halts.Fault means w = Unit {0}
 IsDenied {Y} halts.Memory means w = Unit {0}
 
-pub is_denied : (view : Prepared → Definition) (halt : Halt Denial) (means : Result Definition Denial × World) (w : World) → Turns view (Err halt) means w → IsDenied halt means w
+pub is_denied : (view : Prepared → Definition) (halt : Halt Denial) (means : Result Definition Denial × World) (w : World)
+    → Turns view (Err halt) means w → IsDenied halt means w
 is_denied view (halts.Stops denial) means w is = is
 is_denied view halts.Fault means w is = tt
 is_denied view halts.Memory means w is = tt
 
 -- a pick that is prepared is finished
-pub picked_is : (env : Env) (secs : ℤ) (word : Text) (w v : World) (pick : Definition) → prepared env.vars word w ≡ (Ok pick, v) → picked env secs word w ≡ finished pick env.zone secs v
+pub picked_is : (env : Env) (secs : ℤ) (word : Text) (w v : World) (pick : Definition) → prepared env.vars word w ≡ (Ok pick, v)
+    → picked env secs word w ≡ finished pick env.zone secs v
 unfolding picked
 picked_is env secs word w v pick is = rw is refl
 
 -- one that is not is denied
-picked_not : (env : Env) (secs : ℤ) (word : Text) (w v : World) (halt : Halt Denial) → IsDenied {Y = Definition} halt (prepared env.vars word w) v → Denies halt (picked env secs word w).0
+picked_not : (env : Env) (secs : ℤ) (word : Text) (w v : World) (halt : Halt Denial) → IsDenied {Y = Definition} halt (prepared env.vars word w) v
+    → Denies halt (picked env secs word w).0
 unfolding picked
 picked_not env secs word w v (halts.Stops denial) is = rw is refl
 picked_not env secs word w v halts.Fault is = tt
@@ -75,13 +78,15 @@ fits_halt halts.Memory means is = tt
 
 -- ---- a refusal that is read
 
-pub read_cause : (told : Type 0) (halt : Halt Denial) (old new : Seen) → HasReadCause told (halt_cause halt) old new → HasJudgedCause told (outcome_of (Err halt)) old new
+pub read_cause : (told : Type 0) (halt : Halt Denial) (old new : Seen) → HasReadCause told (halt_cause halt) old new
+    → HasJudgedCause told (outcome_of (Err halt)) old new
 read_cause told (halts.Stops (denied.Refused refusal)) old new is = is.0
 read_cause told (halts.Stops (denied.Limit what number)) old new is = is.0
 read_cause told halts.Fault old new is = (inl is.1, λ t. is.1)
 read_cause told halts.Memory old new is = is.0
 
-fits_end : (old new : World) (means : Result Id Denial × World) (result : Result Id (Halt Denial)) → Ends result old means new → Fits old new means (outcome_of result)
+fits_end : (old new : World) (means : Result Id Denial × World) (result : Result Id (Halt Denial)) → Ends result old means new
+    → Fits old new means (outcome_of result)
 fits_end old new means (Ok id) is = record { answer = rw is refl; leaves = rw is refl }
 fits_end old new means (Err (halts.Stops (denied.Refused refusal))) is = record { answer = rw is.0 refl; leaves = is.1 }
 fits_end old new means (Err (halts.Stops (denied.Limit what number))) is = record { answer = rw is.0 refl; leaves = is.1 }
@@ -90,11 +95,13 @@ fits_end old new means (Err halts.Memory) is = record { answer = tt; leaves = is
 
 -- ---- moments
 
-pub at_secs : (result : Result Id (Halt Denial)) (old drafted new : World) (pick : Definition) (zone : Text) (secs : ℤ) {here : ℤ} → here ≡ secs → Ends result old (finished pick zone here drafted) new → Ends result old (finished pick zone secs drafted) new
+pub at_secs : (result : Result Id (Halt Denial)) (old drafted new : World) (pick : Definition) (zone : Text) (secs : ℤ) {here : ℤ} → here ≡ secs
+    → Ends result old (finished pick zone here drafted) new → Ends result old (finished pick zone secs drafted) new
 at_secs result old drafted new pick zone secs same ends = subst (λ (at : ℤ). Ends result old (finished pick zone at drafted) new) same ends
 
 module _ {C : Type 0} (told : Type 0) (ticked : C → ℤ → C → Type 0) (env : Env) (word : Text) (old new : World) (clock clock' : C) where
-  pub at_moment : (secs : ℤ) (pick : Definition) (lent drafted : World) (result : Result Id (Halt Denial)) → ticked clock secs clock' → (told → prepared env.vars word old ≡ (Ok pick, drafted)) → (told → lent ≡ old)
+  pub at_moment : (secs : ℤ) (pick : Definition) (lent drafted : World) (result : Result Id (Halt Denial)) → ticked clock secs clock'
+      → (told → prepared env.vars word old ≡ (Ok pick, drafted)) → (told → lent ≡ old)
       → (told → Ends result lent (finished pick env.zone secs drafted) new) → IsAtMoment told ticked (λ secs. picked env secs word old) old clock new clock' (outcome_of result)
   at_moment secs pick lent drafted result ticks is same ends = record {
     secs = secs;
@@ -105,7 +112,8 @@ module _ {C : Type 0} (told : Type 0) (ticked : C → ℤ → C → Type 0) (env
         (subst (λ (w : World). Ends result w (finished pick env.zone secs drafted) new) (same t) (ends t)));
   }
 
-  pub at_none : (halt : Halt Denial) (drafted : World) → clock' ≡ clock → (told → IsDenied {Y = Definition} halt (prepared env.vars word old) drafted) → (told → new ≡ old)
+  pub at_none : (halt : Halt Denial) (drafted : World) → clock' ≡ clock → (told → IsDenied {Y = Definition} halt (prepared env.vars word old) drafted)
+      → (told → new ≡ old)
       → IsAtNone told (λ secs. picked env secs word old) old clock new clock' (outcome_of (Err halt))
   at_none halt drafted same denies stays = record {
     ticks_not = same;
@@ -117,7 +125,8 @@ module _ {C : Type 0} (told : Type 0) (ticked : C → ℤ → C → Type 0) (env
 -- ---- what a command means
 
 module _ {C : Type 0} (told : Type 0) (ticked : C → ℤ → C → Type 0) (env : Env) (command : Command) (old new : World) (clock clock' : C) (outcome : Outcome) where
-  pub as_pick : {asked : Option Text} → asked ≡ commit_to_pick command → IsJudged told ticked (λ secs. picked_or_not env secs asked old) old clock new clock' outcome
+  pub as_pick : {asked : Option Text} → asked ≡ commit_to_pick command
+      → IsJudged told ticked (λ secs. picked_or_not env secs asked old) old clock new clock' outcome
       → IsJudged told ticked (λ secs. meant env command secs old) old clock new clock' outcome
   as_pick is = subst (λ (asked : Option Text). IsJudged told ticked (λ secs. picked_or_not env secs asked old) old clock new clock' outcome) is
 
@@ -127,15 +136,18 @@ module _ (vars vars' : List (Name × Text)) (word : Text) (old start : World) (s
   pub prepared_there : (r : Result Definition Denial × World) → prepared vars' word start ≡ r → prepared vars word old ≡ r
   prepared_there r is = ap (λ (v : List (Name × Text)). prepared v word old) (sym same_vars) ∙ ap (prepared vars' word) (sym same) ∙ is
 
-  pub denied_there : (halt : Halt Denial) (v : World) → IsDenied {Y = Definition} halt (prepared vars' word start) v → IsDenied {Y = Definition} halt (prepared vars word old) v
-  denied_there halt v is = subst (λ (r : Result Definition Denial × World). IsDenied {Y = Definition} halt r v) (sym (prepared_there (prepared vars' word start) refl)) is
+  pub denied_there : (halt : Halt Denial) (v : World) → IsDenied {Y = Definition} halt (prepared vars' word start) v
+      → IsDenied {Y = Definition} halt (prepared vars word old) v
+  denied_there halt v is =
+      subst (λ (r : Result Definition Denial × World). IsDenied {Y = Definition} halt r v) (sym (prepared_there (prepared vars' word start) refl)) is
 
 pub stays_by : (told : Type 0) (cause : Cause) (old new : Seen) → HasCause told cause old new → Stays told old new
 stays_by told ByNone old new is = is.1
 stays_by told ByFault old new is = is.2
 stays_by told ByBlock old new is = is.2
 
-pub judged_cause : (told : Type 0) (result : Result Id (Halt Denial)) (old mid new : Seen) → mid.faults ≡ old.faults → old.blocked ≤ mid.blocked → HasEndCause told result mid new → HasJudgedCause told (outcome_of result) old new
+pub judged_cause : (told : Type 0) (result : Result Id (Halt Denial)) (old mid new : Seen) → mid.faults ≡ old.faults → old.blocked ≤ mid.blocked
+    → HasEndCause told result mid new → HasJudgedCause told (outcome_of result) old new
 judged_cause told (Ok id) old mid new same grows is = is ∙ same
 judged_cause told (Err (halts.Stops (denied.Refused refusal))) old mid new same grows is = is ∙ same
 judged_cause told (Err (halts.Stops (denied.Limit what number))) old mid new same grows is = is ∙ same
@@ -148,7 +160,8 @@ judged_cause told (Err halts.Memory) old mid new same grows is = is ∙ same
 
 -- ---- printing
 
-pub caused : (told : Type 0) (outcome judged : Outcome) (old new : Seen) (sink sink' : ℕ) → FitsJudged outcome judged → HasJudgedCause told judged old new
+pub caused : (told : Type 0) (outcome judged : Outcome) (old new : Seen) (sink sink' : ℕ) → FitsJudged outcome judged
+    → HasJudgedCause told judged old new
     → (outcome ≡ OutputFault → judged ≢ OutputFault → Rose sink sink') → HasOutcomeCause told outcome old new sink sink'
 caused told (Done head) judged old new sink sink' fits is printed = subst (λ (o : Outcome). HasJudgedCause told o old new) fits is
 caused told (Stopped kind paths) judged old new sink sink' fits is printed = subst (λ (o : Outcome). HasJudgedCause told o old new) fits is
@@ -156,6 +169,7 @@ caused told (Usage fault) judged old new sink sink' fits is printed = subst (λ 
 caused told (Refused refusal) judged old new sink sink' fits is printed = subst (λ (o : Outcome). HasJudgedCause told o old new) fits is
 caused told StoreFault judged old new sink sink' fits is printed = subst (λ (o : Outcome). HasJudgedCause told o old new) fits is
 caused told ChildFault judged old new sink sink' fits is printed = subst (λ (o : Outcome). HasJudgedCause told o old new) fits is
-caused told OutputFault judged old new sink sink' fits is printed = printed refl (λ same. subst (λ (o : Outcome). HasJudgedCause told o old new) same is)
+caused told OutputFault judged old new sink sink' fits is printed =
+    printed refl (λ same. subst (λ (o : Outcome). HasJudgedCause told o old new) same is)
 caused told (Limit what number) judged old new sink sink' fits is printed = subst (λ (o : Outcome). HasJudgedCause told o old new) fits is
 caused told Memory judged old new sink sink' fits is printed = tt

@@ -37,8 +37,12 @@ last_parts text some =
     let within : length text - 1 < length text = omega arith in
     sym (take_all (length text) text (omega arith)) ∙ ap (λ k. take k text) (sym n) ∙ take_more text (length text - 1) 0 within
 
-pub last_return : (text : List ℕ) → 0 < length text → is_return (get_or text (length text - 1) 0) ≡ true → without_returns (take (length text - 1) text) ≡ without_returns text
-last_return text some e = sym (without_returns-return (take (length text - 1) text) (get_or text (length text - 1) 0) e) ∙ ap without_returns (sym (last_parts text some))
+pub last_return : (text : List ℕ) → 0 < length text → is_return (get_or text (length text - 1) 0) ≡ true
+    → without_returns (take (length text - 1) text) ≡ without_returns text
+last_return text some e =
+    sym (without_returns-return (take (length text - 1) text) (get_or text (length text - 1) 0) e) ∙ ap without_returns (sym (last_parts text some))
 
 pub last_other : (text : List ℕ) → 0 < length text → is_return (get_or text (length text - 1) 0) ≡ false → without_returns text ≡ text
-last_other text some e = ap without_returns (last_parts text some) ∙ without_returns-other (take (length text - 1) text) (get_or text (length text - 1) 0) e ∙ sym (last_parts text some)
+last_other text some e =
+    ap without_returns (last_parts text some) ∙ without_returns-other (take (length text - 1) text) (get_or text (length text - 1) 0) e
+    ∙ sym (last_parts text some)

@@ -20,7 +20,8 @@ same_is false false e = refl
 
 -- a bad value is a value of the form
 module _ (test : Form → Bool) (is_bad : Form → List ℕ → Bool) (bad : List ℕ → Bool) (is : (f : Form) (v : List ℕ) → is_bad f v ≡ (test f && bad v)) (rows : List Row) (name : List ℕ) where
-  cases : (g : Given) (all : List Given) (a mine b : Bool) → bytes_eq g.row.name name ≡ mine → bad g.value ≡ b → is_bad g.row.form g.value ≡ ((mine && a) && b)
+  cases : (g : Given) (all : List Given) (a mine b : Bool) → bytes_eq g.row.name name ≡ mine → bad g.value ≡ b
+      → is_bad g.row.form g.value ≡ ((mine && a) && b)
       → first_bad is_bad all ≡ (if a then find bad (values_given all name) else None)
       → first_bad is_bad (g ∷ all) ≡ (if a then find bad (values_given (g ∷ all) name) else None)
   cases g all true true true i j k later = rw (i, k, j) refl
@@ -131,7 +132,8 @@ acting_is rows all fit =
     ∙ ap (λ (b : Bool). is_given all (codes "--abort") || b) (any_or (is_row (codes "--quit")) (is_row (codes "--edit-todo")) all)))
     ∙ go (is_given all (codes "--continue")) (is_given all (codes "--skip")) (is_given all (codes "--abort")) (is_given all (codes "--quit")) (is_given all (codes "--edit-todo"))
   where
-    go : (a b c d e : Bool) → (a || (b || (c || (d || e)))) ≡ is_some (if a then Some Continue else if b then Some Skip else if c then Some Abort else if d then Some Quit else if e then Some EditTodo else None)
+    go : (a b c d e : Bool)
+        → (a || (b || (c || (d || e)))) ≡ is_some (if a then Some Continue else if b then Some Skip else if c then Some Abort else if d then Some Quit else if e then Some EditTodo else None)
     go true b c d e = refl
     go false true c d e = refl
     go false false true d e = refl

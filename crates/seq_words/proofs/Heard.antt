@@ -72,7 +72,8 @@ module _ (rows : List Row) (k : Known rows) (words : List Text) where
   )
 
   told_holds : IfSome (given_behind rows [] any words) Told
-  told_holds = go (given_behind rows [] any words) (words_taken (built (told_app rows)).top rows words any [] (walk_at [] None idle false) k.fit ([], None, false, refl, refl, refl))
+  told_holds =
+      go (given_behind rows [] any words) (words_taken (built (told_app rows)).top rows words any [] (walk_at [] None idle false) k.fit ([], None, false, refl, refl, refl))
     where
       go : (o : Option (List Given)) → IfSome o (Takes (built (told_app rows)).top (walk_at [] None idle false) words) → IfSome o Told
       go None t = tt
@@ -108,7 +109,8 @@ module _ (q : Row → Bool) where
       go true = tt
       go false = (and_true h refl, tt)
 
-  argument_gives : (word : Text) (next : Expected) → Awaits next → (o : Option Row) → IfSome o (λ row. q row ≡ true) → IfSome (option_map (λ row. gives row word next) o) Gives
+  argument_gives : (word : Text) (next : Expected) → Awaits next → (o : Option Row) → IfSome o (λ row. q row ≡ true)
+      → IfSome (option_map (λ row. gives row word next) o) Gives
   argument_gives word next n None h = tt
   argument_gives word next n (Some row) h = (and_true h refl, n)
 
@@ -136,7 +138,8 @@ module _ (q : Row → Bool) where
     any_gives : (word : Text) → IfSome (any_word rows word) Gives
     any_gives word = go (bytes_eq word (codes "--")) (is_dashed word)
       where
-        go : (two one : Bool) → IfSome (if two then Some (awaits argument) else (if one then dashed (row_named rows word) rows word else as_argument rows word any)) Gives
+        go : (two one : Bool)
+            → IfSome (if two then Some (awaits argument) else (if one then dashed (row_named rows word) rows word else as_argument rows word any)) Gives
         go true one = (refl, tt)
         go false true = dashed_gives word (row_named rows word) (find_all _ rows e)
         go false false = argument_gives word any tt (argument_row rows) (find_all _ rows e)
@@ -150,15 +153,18 @@ module _ (q : Row → Bool) where
         go false = (and_true h refl, tt)
     step_gives argument word h = argument_gives word argument tt (argument_row rows) (find_all _ rows e)
 
-    given_are : (words : List Text) (expected : Expected) (before : List Given) → Awaits expected → AllAre before → IfSome (given_behind rows before expected words) AllAre
+    given_are : (words : List Text) (expected : Expected) (before : List Given) → Awaits expected → AllAre before
+        → IfSome (given_behind rows before expected words) AllAre
     given_are [] expected before a h = go (has_ended expected)
       where
         go : (b : Bool) → IfSome (if b then Some before else None) AllAre
         go true = h
         go false = tt
-    given_are (word ∷ words) expected before a h = go (step rows expected word) (step_gives expected word a) (λ next more n m. given_are words next more n m)
+    given_are (word ∷ words) expected before a h =
+        go (step rows expected word) (step_gives expected word a) (λ next more n m. given_are words next more n m)
       where
-        go : (o : Option Step) → IfSome o Gives → ((next : Expected) (more : List Given) → Awaits next → AllAre more → IfSome (given_behind rows more next words) AllAre)
+        go : (o : Option Step) → IfSome o Gives
+            → ((next : Expected) (more : List Given) → Awaits next → AllAre more → IfSome (given_behind rows more next words) AllAre)
             → IfSome (option_and_then (λ st. given_behind rows (before ++ st.gives) st.next words) o) AllAre
         go None s later = tt
         go (Some st) s later = later st.next (before ++ st.gives) s.1 (list_all-append (λ g. q g.row) before st.gives ∙ and_true h s.0)
@@ -173,20 +179,24 @@ held_by verb words app m is has plain =
     k : Known (rows_for verb)
     k = known verb
 
-    go : (o : Option (List Given)) → IfSome o (Told (rows_for verb) k words) → IfSome o (AllAre (forms_fit (rows_for verb))) → is_some o ≡ true → IsSomeAnd o (HoldsOf (rows_for verb) m)
+    go : (o : Option (List Given)) → IfSome o (Told (rows_for verb) k words) → IfSome o (AllAre (forms_fit (rows_for verb))) → is_some o ≡ true
+        → IsSomeAnd o (HoldsOf (rows_for verb) m)
     go None t f p = absurd (true≢false (sym p))
     go (Some all) t f p = ((has (ap is_simple is ∙ k.simple)).0 ∙ ap (λ (a : App). matches_of a words) is ∙ t.0, f)
 
 pub plain_taken : (verb : VerbWord) (words : List Text) (app : App) → app ≡ told_app (rows_for verb)
     → is_some (given_behind (rows_for verb) [] any words) ≡ true → takes app words ≡ true
-plain_taken verb words app is plain = ap (λ (a : App). takes a words) is ∙ go (given_behind (rows_for verb) [] any words) (told_holds (rows_for verb) (known verb) words) plain
+plain_taken verb words app is plain =
+    ap (λ (a : App). takes a words) is ∙ go (given_behind (rows_for verb) [] any words) (told_holds (rows_for verb) (known verb) words) plain
   where
-    go : (o : Option (List Given)) → IfSome o (Told (rows_for verb) (known verb) words) → is_some o ≡ true → takes (told_app (rows_for verb)) words ≡ true
+    go : (o : Option (List Given)) → IfSome o (Told (rows_for verb) (known verb) words) → is_some o ≡ true
+        → takes (told_app (rows_for verb)) words ≡ true
     go None t p = absurd (true≢false (sym p))
     go (Some all) t p = t.1
 
 -- nothing stands twice, and nothing else is wrong
-pub nothing_wrong : (rows : List Row) (m : ArgMatches) (single : Bool) (given : Option (List Given)) → ((all : List Given) → Holds m all → single ≡ is_single rows all)
+pub nothing_wrong : (rows : List Row) (m : ArgMatches) (single : Bool) (given : Option (List Given))
+    → ((all : List Given) → Holds m all → single ≡ is_single rows all)
     → IsSomeAnd given (HoldsOf rows m) → single ≡ true → ((all : List Given) → HoldsOf rows m all → None ≡ fault_of rows all)
     → (all : List Given) × (judged rows (option_and_then (if_single rows) given) ≡ Ok all) × Holds m all
 nothing_wrong rows m single None is h e of = absurd h

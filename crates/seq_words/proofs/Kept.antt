@@ -52,18 +52,21 @@ kept_at name g (r ∷ rs) = go (bytes_eq r.id g.row.name) (bytes_eq r.id name) (
     go false false asked a b c later = rw (a, b) later
 
 -- the same, of all uses
-pub values_kept : (name : Text) (all : List Given) (rows : List Row) → values_at name (all_kept rows all) ≡ values_at name rows ++ values_given all name
+pub values_kept : (name : Text) (all : List Given) (rows : List Row)
+    → values_at name (all_kept rows all) ≡ values_at name rows ++ values_given all name
 values_kept name [] rows = sym (append-nil (values_at name rows))
 values_kept name (g ∷ all) rows =
     values_kept name all (kept rows g)
     ∙ ap (λ (o : Option (List Text)). unwrap_or o [] ++ values_given all name) (kept_at name g rows)
     ∙ go (bytes_eq g.row.name name)
   where
-    go : (b : Bool) → unwrap_or (after_use b name rows g) [] ++ values_given all name ≡ values_at name rows ++ map (λ (x : Given). x.value) (cond b (g ∷ filter (is_row name) all) (filter (is_row name) all))
+    go : (b : Bool)
+        → unwrap_or (after_use b name rows g) [] ++ values_given all name ≡ values_at name rows ++ map (λ (x : Given). x.value) (cond b (g ∷ filter (is_row name) all) (filter (is_row name) all))
     go true = append_assoc (values_at name rows) (g.value ∷ []) (values_given all name)
     go false = refl
 
-pub given_kept : (name : Text) (all : List Given) (rows : List Row) → is_some (all_of name (all_kept rows all)) ≡ (is_some (all_of name rows) || is_given all name)
+pub given_kept : (name : Text) (all : List Given) (rows : List Row)
+    → is_some (all_of name (all_kept rows all)) ≡ (is_some (all_of name rows) || is_given all name)
 given_kept name [] rows = go (is_some (all_of name rows))
   where
     go : (b : Bool) → b ≡ (b || false)
@@ -74,7 +77,8 @@ given_kept name (g ∷ all) rows =
     ∙ ap (λ (o : Option (List Text)). is_some o || is_given all name) (kept_at name g rows)
     ∙ go (bytes_eq g.row.name name) (is_some (all_of name rows)) refl
   where
-    go : (b before : Bool) → is_some (all_of name rows) ≡ before → (is_some (after_use b name rows g) || is_given all name) ≡ (is_some (all_of name rows) || (b || is_given all name))
+    go : (b before : Bool) → is_some (all_of name rows) ≡ before
+        → (is_some (after_use b name rows g) || is_given all name) ≡ (is_some (all_of name rows) || (b || is_given all name))
     go true true e = rw e refl
     go true false e = rw e refl
     go false before e = refl
@@ -89,7 +93,8 @@ holds_given m all name h =
     some None = refl
     some (Some x) = refl
 
-pub holds_values : (m : ArgMatches) (all : List Given) (name : Text) → Holds m all → unwrap_or (option_map raw_values (matched_of (found_of m) name)) [] ≡ values_given all name
+pub holds_values : (m : ArgMatches) (all : List Given) (name : Text) → Holds m all
+    → unwrap_or (option_map raw_values (matched_of (found_of m) name)) [] ≡ values_given all name
 holds_values m all name h =
     ap (λ (o : Option (List Text)). unwrap_or o []) (raw_values-rows (found_of m) name) ∙ ap (values_at name) h ∙ values_kept name all []
 
@@ -100,7 +105,8 @@ holds_value m all name h = at (matched_of (found_of m) name) ∙ ap (λ (vs : Li
     of [] = refl
     of (v ∷ vs) = refl
 
-    at : (o : Option MatchedArg) → option_and_then (λ a. option_map (λ s. s.now) (slice_get a.vals.items 0)) o ≡ slice_get (unwrap_or (option_map raw_values o) []) 0
+    at : (o : Option MatchedArg)
+        → option_and_then (λ a. option_map (λ s. s.now) (slice_get a.vals.items 0)) o ≡ slice_get (unwrap_or (option_map raw_values o) []) 0
     at None = refl
     at (Some x) = of x.vals.items
 
@@ -116,9 +122,12 @@ holds_value m all name h = at (matched_of (found_of m) name) ∙ ap (λ (vs : Li
 -- as many stand as have a value
 counted_is : (name : Text) (all : List Given) → count_by (is_row name) all ≡ length (values_given all name)
 counted_is name [] = refl
-counted_is name (g ∷ all) = sum_by-cons (λ x. cond (is_row name x) 1 0) g all ∙ ap (λ (n : ℕ). cond (bytes_eq g.row.name name) 1 0 + n) (counted_is name all) ∙ go (bytes_eq g.row.name name)
+counted_is name (g ∷ all) =
+    sum_by-cons (λ x. cond (is_row name x) 1 0) g all ∙ ap (λ (n : ℕ). cond (bytes_eq g.row.name name) 1 0 + n) (counted_is name all)
+    ∙ go (bytes_eq g.row.name name)
   where
-    go : (b : Bool) → cond b 1 0 + length (values_given all name) ≡ length (map (λ (x : Given). x.value) (cond b (g ∷ filter (is_row name) all) (filter (is_row name) all)))
+    go : (b : Bool)
+        → cond b 1 0 + length (values_given all name) ≡ length (map (λ (x : Given). x.value) (cond b (g ∷ filter (is_row name) all) (filter (is_row name) all)))
     go true = let one : 1 + length (values_given all name) ≡ suc (length (values_given all name)) = omega arith in one
     go false = let none : 0 + length (values_given all name) ≡ length (values_given all name) = omega arith in none
 

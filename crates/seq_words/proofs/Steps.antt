@@ -21,7 +21,8 @@ use Rattle.seq_words.proofs.Walks.{Goes, behind_dashes, held_at, long_awaits, lo
 abbrev pub Stands : Shape → Expected → List clap.Row → Walk → Type 0
 Stands s any r w = (rows : List clap.Row) × (pending : Option (Text × List Text)) × (busy : Bool) × (w ≡ walk_at rows pending (waiting_at busy) false)
     × (settled_rows s.rules pending rows ≡ r) × (settle_passes s.rules s.args_override_self (held_at rows pending) ≡ true)
-Stands s (value_of row) r w = (long : Option Text) × (short : Option ℕ) × (index : Option ℕ) × (w ≡ walk_at r (Some (row.name, [])) (option row.name) false)
+Stands s (value_of row) r w =
+    (long : Option Text) × (short : Option ℕ) × (index : Option ℕ) × (w ≡ walk_at r (Some (row.name, [])) (option row.name) false)
     × (arg_by_id s.rules row.name ≡ Some (told_as row.name long short index false))
 Stands s argument r w = (rows : List clap.Row) × (pending : Option (Text × List Text)) × (waiting : Waiting) × (w ≡ walk_at rows pending waiting true)
     × (settled_rows s.rules pending rows ≡ r) × (settle_passes s.rules s.args_override_self (held_at rows pending) ≡ true)
@@ -38,7 +39,8 @@ pub find_fits : (c : List Rule) (rows : List Row) (p : Row → Bool) → AllFit 
 find_fits c [] p fit = tt
 find_fits c (row ∷ rows) p fit = go (p row) refl (find_fits c rows p fit.1)
   where
-    go : (b : Bool) → p row ≡ b → IfSome (find p rows) (λ x. Fits c x × (p x ≡ true)) → IfSome (cond b (Some row) (find p rows)) (λ x. Fits c x × (p x ≡ true))
+    go : (b : Bool) → p row ≡ b → IfSome (find p rows) (λ x. Fits c x × (p x ≡ true))
+        → IfSome (cond b (Some row) (find p rows)) (λ x. Fits c x × (p x ≡ true))
     go true e later = (fit.0, e)
     go false e later = later
 
@@ -54,10 +56,12 @@ before_whole (x ∷ xs) e = go (x == 61) refl e (before_whole xs)
     go : (b : Bool) → (x == 61) ≡ b → (b || has_byte 61 xs) ≡ false → (has_byte 61 xs ≡ false → before_first is_equals xs ≡ xs)
         → before_first is_equals (x ∷ xs) ≡ x ∷ xs
     go true at lacks later = absurd (true≢false lacks)
-    go false at lacks later = rw at (ap (λ (k : ℕ). take k (x ∷ xs)) (one_more (position_or_len is_equals xs)) ∙ ap (λ (t : Text). x ∷ t) (later lacks))
+    go false at lacks later =
+        rw at (ap (λ (k : ℕ). take k (x ∷ xs)) (one_more (position_or_len is_equals xs)) ∙ ap (λ (t : Text). x ∷ t) (later lacks))
 
 long_name : (first : ℕ) (rest : Text) → has_byte 61 (first ∷ rest) ≡ false → long_of (45 ∷ 45 ∷ first ∷ rest) ≡ Some (first ∷ rest, None)
-long_name first rest e = ap₂ (λ (n : Text) (b : Bool). Some (n, cond b (Some (after_first is_equals (first ∷ rest))) None)) (before_whole (first ∷ rest) e) e
+long_name first rest e =
+    ap₂ (λ (n : Text) (b : Bool). Some (n, cond b (Some (after_first is_equals (first ∷ rest))) None)) (before_whole (first ∷ rest) e) e
 
 -- ---- steps
 
@@ -164,11 +168,13 @@ before_dash : (ys : Text) → before_first is_equals (45 ∷ ys) ≡ 45 ∷ befo
 before_dash ys = ap (λ (k : ℕ). take k (45 ∷ ys)) (one_more (position_or_len is_equals ys))
 
 after_dash : (ys : Text) → after_first is_equals (45 ∷ ys) ≡ after_first is_equals ys
-after_dash ys = ap (λ (k : ℕ). drop k (45 ∷ ys)) (let k : 1 + position_or_len is_equals ys + 1 ≡ suc (position_or_len is_equals ys + 1) = omega arith in k)
+after_dash ys =
+    ap (λ (k : ℕ). drop k (45 ∷ ys)) (let k : 1 + position_or_len is_equals ys + 1 ≡ suc (position_or_len is_equals ys + 1) = omega arith in k)
 
 -- the row is an option with a value
 abbrev Valued : Shape → Row → Type 0
-Valued s row = (long : Option Text) × (short : Option ℕ) × (index : Option ℕ) × (is_dashed row.name ≡ true → IsLong s.rules row (told_as row.name long short index false)
+Valued s row =
+    (long : Option Text) × (short : Option ℕ) × (index : Option ℕ) × (is_dashed row.name ≡ true → IsLong s.rules row (told_as row.name long short index false)
     ⊎ IsShort s.rules row (told_as row.name long short index false))
 
 valued : (s : Shape) (row : Row) → Fits s.rules row → is_flag row.form ≡ false → Valued s row
@@ -256,7 +262,8 @@ short_with_value s rows pending busy ys row fit ok form bare name whole no_equal
         )
 
 -- a word with a dash that is no row's name
-pub with_value_follows : (s : Shape) (rules : List Row) (rows : List clap.Row) (pending : Option (Text × List Text)) (busy : Bool) (ys : Text) → AllFit s.rules rules
+pub with_value_follows : (s : Shape) (rules : List Row) (rows : List clap.Row) (pending : Option (Text × List Text)) (busy : Bool) (ys : Text)
+    → AllFit s.rules rules
     → settle_passes s.rules s.args_override_self (held_at rows pending) ≡ true → row_named rules (45 ∷ ys) ≡ None
     → IfSome (with_value rules (45 ∷ ys)) (Follows s (settled_rows s.rules pending rows) (walk_at rows pending (waiting_at busy) false) (45 ∷ ys))
 with_value_follows s rules rows pending busy ys fit ok none = go (is_dashed ys) refl
@@ -272,7 +279,8 @@ with_value_follows s rules rows pending busy ys fit ok none = go (is_dashed ys) 
         → IfSome o (λ row. Fits s.rules row × (bytes_eq row.name (before_first is_equals (45 ∷ ys)) ≡ true))
         → IfSome (option_and_then (attached (after_first is_equals (45 ∷ ys))) o) (Reaches s rows pending busy (45 ∷ ys))
     by_long zs is None found h = tt
-    by_long zs is (Some row) found h = elim (is_flag row.form) as (λ (b : Bool). is_flag row.form ≡ b → IfSome (if b then None else Some (gives row (after_first is_equals (45 ∷ ys)) any)) (Reaches s rows pending busy (45 ∷ ys))) [
+    by_long zs is (Some row) found h =
+        elim (is_flag row.form) as (λ (b : Bool). is_flag row.form ≡ b → IfSome (if b then None else Some (gives row (after_first is_equals (45 ∷ ys)) any)) (Reaches s rows pending busy (45 ∷ ys))) [
       | true ↦ λ form. tt
       | false ↦ λ form.
           let name : row.name ≡ before_first is_equals (45 ∷ ys) = (bytes_eq-Decides _ _).0 h.1 in
@@ -286,7 +294,8 @@ with_value_follows s rules rows pending busy ys fit ok none = go (is_dashed ys) 
         → IfSome o (λ row. Fits s.rules row × (bytes_eq row.name (take 2 (45 ∷ ys)) ≡ true))
         → IfSome (option_and_then (attached (drop 2 (45 ∷ ys))) o) (Reaches s rows pending busy (45 ∷ ys))
     by_short None bare lacks found h = tt
-    by_short (Some row) bare lacks found h = elim (is_flag row.form) as (λ (b : Bool). is_flag row.form ≡ b → IfSome (if b then None else Some (gives row (drop 2 (45 ∷ ys)) any)) (Reaches s rows pending busy (45 ∷ ys))) [
+    by_short (Some row) bare lacks found h =
+        elim (is_flag row.form) as (λ (b : Bool). is_flag row.form ≡ b → IfSome (if b then None else Some (gives row (drop 2 (45 ∷ ys)) any)) (Reaches s rows pending busy (45 ∷ ys))) [
       | true ↦ λ form. tt
       | false ↦ λ form. short_with_value s rows pending busy ys row h.0 ok form bare ((bytes_eq-Decides _ _).0 h.1) (other_name (take 2 (45 ∷ ys)) row found h.1) lacks
     ] refl
@@ -300,6 +309,7 @@ with_value_follows s rules rows pending busy ys fit ok none = go (is_dashed ys) 
     unless_equals true lacks bare = tt
     unless_equals false lacks bare = by_short (row_named rules (take 2 (45 ∷ ys))) bare lacks refl (find_fits s.rules rules _ fit)
 
-    go : (b : Bool) → is_dashed ys ≡ b → IfSome (if b then long_value_of rules (45 ∷ ys) else short_value_of rules (45 ∷ ys)) (Reaches s rows pending busy (45 ∷ ys))
+    go : (b : Bool) → is_dashed ys ≡ b
+        → IfSome (if b then long_value_of rules (45 ∷ ys) else short_value_of rules (45 ∷ ys)) (Reaches s rows pending busy (45 ∷ ys))
     go true e = by_long (drop 1 ys) (second ys e) (row_named rules (before_first is_equals (45 ∷ ys))) refl (find_fits s.rules rules _ fit)
     go false e = unless_equals (begins_with 61 (drop 2 (45 ∷ ys))) refl e

@@ -20,12 +20,14 @@ dashed_parts : (word : Text) → is_dashed word ≡ true → word ≡ 45 ∷ dro
 dashed_parts [] e = absurd (true≢false (sym e))
 dashed_parts (z ∷ zs) e = ap (λ (k : ℕ). k ∷ zs) (eqb-true z 45 e)
 
-any_follows : (s : Shape) (rules : List Row) (rows : List clap.Row) (pending : Option (Text × List Text)) (busy : Bool) (word : Text) → AllFit s.rules rules
+any_follows : (s : Shape) (rules : List Row) (rows : List clap.Row) (pending : Option (Text × List Text)) (busy : Bool) (word : Text)
+    → AllFit s.rules rules
     → settle_passes s.rules s.args_override_self (held_at rows pending) ≡ true
     → IfSome (any_word rules word) (Reaches s rows pending busy word)
 any_follows s rules rows pending busy word fit ok = split (bytes_eq word (codes "--")) refl
   where
-    by_name : (o : Option Row) → row_named rules word ≡ o → is_dashed word ≡ true → IfSome o (λ row. Fits s.rules row × (bytes_eq row.name word ≡ true))
+    by_name : (o : Option Row) → row_named rules word ≡ o → is_dashed word ≡ true
+        → IfSome o (λ row. Fits s.rules row × (bytes_eq row.name word ≡ true))
         → IfSome (dashed o rules word) (Reaches s rows pending busy word)
     by_name None found e h =
         let parts = dashed_parts word e in
@@ -49,7 +51,8 @@ any_follows s rules rows pending busy word fit ok = split (bytes_eq word (codes 
         (walk_at rows pending (waiting_at busy) true, dashes s rows pending busy, (rows, pending, waiting_at busy, refl, refl, ok))
     split false e = or_argument (is_dashed word) refl
 
-step_follows : (s : Shape) (rules : List Row) (expected : Expected) (r : List clap.Row) (w : Walk) (word : Text) → AllFit s.rules rules → Stands s expected r w
+step_follows : (s : Shape) (rules : List Row) (expected : Expected) (r : List clap.Row) (w : Walk) (word : Text) → AllFit s.rules rules
+    → Stands s expected r w
     → IfSome (step rules expected word) (Follows s r w word)
 step_follows s rules any r w word fit (rows, pending, busy, is, settled, ok) =
     subst (λ (q : List clap.Row). IfSome (any_word rules word) (Follows s q w word)) settled

@@ -15,7 +15,8 @@ use Rattle.seq_words.specs.Verbs.{told_app, told_rules}
 use Rattle.seq_words.specs.declared.verb.VerbWord.{VerbWord}
 use Rattle.seq_words.specs.declared.verb.VerbWord.TheVariants.{Rebase, CherryPick, Revert, Init, Add, Rm, Commit, Status, Cat}
 
-long : {c : List Rule} {row : Row} (stem : Text) (flag : Bool) → row.name ≡ 45 ∷ 45 ∷ get_or stem 0 0 ∷ drop 1 stem → has_byte 61 (get_or stem 0 0 ∷ drop 1 stem) ≡ false
+long : {c : List Rule} {row : Row} (stem : Text) (flag : Bool) → row.name ≡ 45 ∷ 45 ∷ get_or stem 0 0 ∷ drop 1 stem
+    → has_byte 61 (get_or stem 0 0 ∷ drop 1 stem) ≡ false
     → is_flag row.form ≡ flag → is_argument row.form ≡ false → arg_by_id c row.name ≡ Some (told_as row.name (Some stem) None None flag)
     → arg_by_long c (get_or stem 0 0 ∷ drop 1 stem) ≡ Some (told_as row.name (Some stem) None None flag) → Fits c row
 long stem flag name whole form option by_id found = record {
@@ -63,13 +64,16 @@ commit_fits : AllFit (told_rules commit_rows) commit_rows
 commit_fits = (long (codes "amend") true refl refl refl refl refl refl, (short 109 false refl (omega arith) refl refl refl refl refl, tt))
 
 revert_fits : AllFit (told_rules revert_rows) revert_rows
-revert_fits = (long (codes "continue") true refl refl refl refl refl refl, (long (codes "skip") true refl refl refl refl refl refl, (long (codes "abort") true refl refl refl refl refl refl, (long (codes "quit") true refl refl refl refl refl refl, (short 101 true refl (omega arith) refl refl refl refl refl, (short 109 false refl (omega arith) refl refl refl refl refl, (long (codes "no-edit") true refl refl refl refl refl refl, (argument refl refl refl refl, tt))))))))
+revert_fits =
+    (long (codes "continue") true refl refl refl refl refl refl, (long (codes "skip") true refl refl refl refl refl refl, (long (codes "abort") true refl refl refl refl refl refl, (long (codes "quit") true refl refl refl refl refl refl, (short 101 true refl (omega arith) refl refl refl refl refl, (short 109 false refl (omega arith) refl refl refl refl refl, (long (codes "no-edit") true refl refl refl refl refl refl, (argument refl refl refl refl, tt))))))))
 
 cherry_pick_fits : AllFit (told_rules cherry_pick_rows) cherry_pick_rows
-cherry_pick_fits = (long (codes "continue") true refl refl refl refl refl refl, (long (codes "skip") true refl refl refl refl refl refl, (long (codes "abort") true refl refl refl refl refl refl, (long (codes "quit") true refl refl refl refl refl refl, (short 101 true refl (omega arith) refl refl refl refl refl, (short 120 true refl (omega arith) refl refl refl refl refl, (short 109 false refl (omega arith) refl refl refl refl refl, (long (codes "allow-empty") true refl refl refl refl refl refl, (long (codes "keep-redundant-commits") true refl refl refl refl refl refl, (long (codes "empty") false refl refl refl refl refl refl, (long (codes "no-edit") true refl refl refl refl refl refl, (argument refl refl refl refl, tt))))))))))))
+cherry_pick_fits =
+    (long (codes "continue") true refl refl refl refl refl refl, (long (codes "skip") true refl refl refl refl refl refl, (long (codes "abort") true refl refl refl refl refl refl, (long (codes "quit") true refl refl refl refl refl refl, (short 101 true refl (omega arith) refl refl refl refl refl, (short 120 true refl (omega arith) refl refl refl refl refl, (short 109 false refl (omega arith) refl refl refl refl refl, (long (codes "allow-empty") true refl refl refl refl refl refl, (long (codes "keep-redundant-commits") true refl refl refl refl refl refl, (long (codes "empty") false refl refl refl refl refl refl, (long (codes "no-edit") true refl refl refl refl refl refl, (argument refl refl refl refl, tt))))))))))))
 
 rebase_fits : AllFit (told_rules rebase_rows) rebase_rows
-rebase_fits = (long (codes "continue") true refl refl refl refl refl refl, (long (codes "skip") true refl refl refl refl refl refl, (long (codes "abort") true refl refl refl refl refl refl, (long (codes "quit") true refl refl refl refl refl refl, (long (codes "edit-todo") true refl refl refl refl refl refl, (short 105 true refl (omega arith) refl refl refl refl refl, (long (codes "rebase-merges") true refl refl refl refl refl refl, (long (codes "onto") false refl refl refl refl refl refl, (long (codes "no-ff") true refl refl refl refl refl refl, (long (codes "empty") false refl refl refl refl refl refl, (long (codes "autosquash") true refl refl refl refl refl refl, (long (codes "update-refs") true refl refl refl refl refl refl, (short 120 false refl (omega arith) refl refl refl refl refl, (long (codes "reschedule-failed-exec") true refl refl refl refl refl refl, (argument refl refl refl refl, tt)))))))))))))))
+rebase_fits =
+    (long (codes "continue") true refl refl refl refl refl refl, (long (codes "skip") true refl refl refl refl refl refl, (long (codes "abort") true refl refl refl refl refl refl, (long (codes "quit") true refl refl refl refl refl refl, (long (codes "edit-todo") true refl refl refl refl refl refl, (short 105 true refl (omega arith) refl refl refl refl refl, (long (codes "rebase-merges") true refl refl refl refl refl refl, (long (codes "onto") false refl refl refl refl refl refl, (long (codes "no-ff") true refl refl refl refl refl refl, (long (codes "empty") false refl refl refl refl refl refl, (long (codes "autosquash") true refl refl refl refl refl refl, (long (codes "update-refs") true refl refl refl refl refl refl, (short 120 false refl (omega arith) refl refl refl refl refl, (long (codes "reschedule-failed-exec") true refl refl refl refl refl refl, (argument refl refl refl refl, tt)))))))))))))))
 
 none_fits : AllFit (told_rules []) []
 none_fits = tt
@@ -86,12 +90,21 @@ pub record Known (rows : List Row) : Type 0 where
   pub forms : list_all (forms_fit rows) rows ≡ true
 
 pub known : (verb : VerbWord) → Known (rows_for verb)
-known Rebase = record { fit = rebase_fits; simple = refl; words = λ words. refl; names = refl; leaves = refl; defaults = refl; valid = λ found. refl; forms = refl }
-known CherryPick = record { fit = cherry_pick_fits; simple = refl; words = λ words. refl; names = refl; leaves = refl; defaults = refl; valid = λ found. refl; forms = refl }
-known Revert = record { fit = revert_fits; simple = refl; words = λ words. refl; names = refl; leaves = refl; defaults = refl; valid = λ found. refl; forms = refl }
-known Init = record { fit = none_fits; simple = refl; words = λ words. refl; names = refl; leaves = refl; defaults = refl; valid = λ found. refl; forms = refl }
-known Add = record { fit = paths_fit; simple = refl; words = λ words. refl; names = refl; leaves = refl; defaults = refl; valid = λ found. refl; forms = refl }
-known Rm = record { fit = paths_fit; simple = refl; words = λ words. refl; names = refl; leaves = refl; defaults = refl; valid = λ found. refl; forms = refl }
-known Commit = record { fit = commit_fits; simple = refl; words = λ words. refl; names = refl; leaves = refl; defaults = refl; valid = λ found. refl; forms = refl }
-known Status = record { fit = none_fits; simple = refl; words = λ words. refl; names = refl; leaves = refl; defaults = refl; valid = λ found. refl; forms = refl }
-known Cat = record { fit = cat_fits; simple = refl; words = λ words. refl; names = refl; leaves = refl; defaults = refl; valid = λ found. refl; forms = refl }
+known Rebase =
+    record { fit = rebase_fits; simple = refl; words = λ words. refl; names = refl; leaves = refl; defaults = refl; valid = λ found. refl; forms = refl }
+known CherryPick =
+    record { fit = cherry_pick_fits; simple = refl; words = λ words. refl; names = refl; leaves = refl; defaults = refl; valid = λ found. refl; forms = refl }
+known Revert =
+    record { fit = revert_fits; simple = refl; words = λ words. refl; names = refl; leaves = refl; defaults = refl; valid = λ found. refl; forms = refl }
+known Init =
+    record { fit = none_fits; simple = refl; words = λ words. refl; names = refl; leaves = refl; defaults = refl; valid = λ found. refl; forms = refl }
+known Add =
+    record { fit = paths_fit; simple = refl; words = λ words. refl; names = refl; leaves = refl; defaults = refl; valid = λ found. refl; forms = refl }
+known Rm =
+    record { fit = paths_fit; simple = refl; words = λ words. refl; names = refl; leaves = refl; defaults = refl; valid = λ found. refl; forms = refl }
+known Commit =
+    record { fit = commit_fits; simple = refl; words = λ words. refl; names = refl; leaves = refl; defaults = refl; valid = λ found. refl; forms = refl }
+known Status =
+    record { fit = none_fits; simple = refl; words = λ words. refl; names = refl; leaves = refl; defaults = refl; valid = λ found. refl; forms = refl }
+known Cat =
+    record { fit = cat_fits; simple = refl; words = λ words. refl; names = refl; leaves = refl; defaults = refl; valid = λ found. refl; forms = refl }

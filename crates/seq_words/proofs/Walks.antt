@@ -61,7 +61,8 @@ module _ (s : Shape) (rows : List clap.Row) (pending : Option (Text × List Text
   unfolding walked
   long_flag parts found = go busy
     where
-      go : (b : Bool) → Goes s (walk_at rows pending (waiting_at b) false) word (walk_at (with_values name AsWritten CommandLine ([] ∷ []) (settled_rows s.rules pending rows)) None idle false)
+      go : (b : Bool)
+          → Goes s (walk_at rows pending (waiting_at b) false) word (walk_at (with_values name AsWritten CommandLine ([] ∷ []) (settled_rows s.rules pending rows)) None idle false)
       go true = (rw (longer, parts, found) refl, rw (longer, parts, found, ok) refl)
       go false = (rw (longer, parts, found) refl, rw (longer, parts, found, ok) refl)
 
@@ -70,7 +71,8 @@ module _ (s : Shape) (rows : List clap.Row) (pending : Option (Text × List Text
   unfolding walked
   long_awaits parts found = go busy
     where
-      go : (b : Bool) → Goes s (walk_at rows pending (waiting_at b) false) word (walk_at (settled_rows s.rules pending rows) (Some (name, [])) (option name) false)
+      go : (b : Bool)
+          → Goes s (walk_at rows pending (waiting_at b) false) word (walk_at (settled_rows s.rules pending rows) (Some (name, [])) (option name) false)
       go true = (rw (longer, parts, found) refl, rw (longer, parts, found, ok) refl)
       go false = (rw (longer, parts, found) refl, rw (longer, parts, found, ok) refl)
 
@@ -79,7 +81,8 @@ module _ (s : Shape) (rows : List clap.Row) (pending : Option (Text × List Text
   unfolding walked
   long_value value parts found = go busy
     where
-      go : (b : Bool) → Goes s (walk_at rows pending (waiting_at b) false) word (walk_at (with_values name AsWritten CommandLine (value ∷ []) (settled_rows s.rules pending rows)) None idle false)
+      go : (b : Bool)
+          → Goes s (walk_at rows pending (waiting_at b) false) word (walk_at (with_values name AsWritten CommandLine (value ∷ []) (settled_rows s.rules pending rows)) None idle false)
       go true = (rw (longer, parts, found) refl, rw (longer, parts, found, ok) refl)
       go false = (rw (longer, parts, found) refl, rw (longer, parts, found, ok) refl)
 
@@ -97,27 +100,36 @@ module _ (s : Shape) (rows : List clap.Row) (pending : Option (Text × List Text
   unfolding walked bundle_met flags_pass
   short_flag found = go busy
     where
-      go : (b : Bool) → Goes s (walk_at rows pending (waiting_at b) false) (45 ∷ letter ∷ []) (walk_at (with_values name AsWritten CommandLine ([] ∷ []) (settled_rows s.rules pending rows)) None idle false)
-      go true = (rw (other, other, first_char letter [] ascii, encode_ascii letter ascii, found) refl, rw (other, other, first_char letter [] ascii, encode_ascii letter ascii, found, ok) refl)
-      go false = (rw (other, other, first_char letter [] ascii, encode_ascii letter ascii, found) refl, rw (other, other, first_char letter [] ascii, encode_ascii letter ascii, found, ok) refl)
+      go : (b : Bool)
+          → Goes s (walk_at rows pending (waiting_at b) false) (45 ∷ letter ∷ []) (walk_at (with_values name AsWritten CommandLine ([] ∷ []) (settled_rows s.rules pending rows)) None idle false)
+      go true =
+          (rw (other, other, first_char letter [] ascii, encode_ascii letter ascii, found) refl, rw (other, other, first_char letter [] ascii, encode_ascii letter ascii, found, ok) refl)
+      go false =
+          (rw (other, other, first_char letter [] ascii, encode_ascii letter ascii, found) refl, rw (other, other, first_char letter [] ascii, encode_ascii letter ascii, found, ok) refl)
 
   pub short_awaits : arg_by_short s.rules letter ≡ Some (told_as name long short index false)
       → Goes s (walk_at rows pending (waiting_at busy) false) (45 ∷ letter ∷ []) (walk_at (settled_rows s.rules pending rows) (Some (name, [])) (option name) false)
   unfolding walked bundle_met flags_pass
   short_awaits found = go busy
     where
-      go : (b : Bool) → Goes s (walk_at rows pending (waiting_at b) false) (45 ∷ letter ∷ []) (walk_at (settled_rows s.rules pending rows) (Some (name, [])) (option name) false)
-      go true = (rw (other, other, first_char letter [] ascii, encode_ascii letter ascii, found) refl, rw (other, other, first_char letter [] ascii, encode_ascii letter ascii, found, ok) refl)
-      go false = (rw (other, other, first_char letter [] ascii, encode_ascii letter ascii, found) refl, rw (other, other, first_char letter [] ascii, encode_ascii letter ascii, found, ok) refl)
+      go : (b : Bool)
+          → Goes s (walk_at rows pending (waiting_at b) false) (45 ∷ letter ∷ []) (walk_at (settled_rows s.rules pending rows) (Some (name, [])) (option name) false)
+      go true =
+          (rw (other, other, first_char letter [] ascii, encode_ascii letter ascii, found) refl, rw (other, other, first_char letter [] ascii, encode_ascii letter ascii, found, ok) refl)
+      go false =
+          (rw (other, other, first_char letter [] ascii, encode_ascii letter ascii, found) refl, rw (other, other, first_char letter [] ascii, encode_ascii letter ascii, found, ok) refl)
 
   pub short_value : (v : ℕ) (vs : Text) → (v == 61) ≡ false → arg_by_short s.rules letter ≡ Some (told_as name long short index false)
       → Goes s (walk_at rows pending (waiting_at busy) false) (45 ∷ letter ∷ v ∷ vs) (walk_at (with_values name AsWritten CommandLine ((v ∷ vs) ∷ []) (settled_rows s.rules pending rows)) None idle false)
   unfolding walked bundle_met flags_pass
   short_value v vs bare found = go busy
     where
-      go : (b : Bool) → Goes s (walk_at rows pending (waiting_at b) false) (45 ∷ letter ∷ v ∷ vs) (walk_at (with_values name AsWritten CommandLine ((v ∷ vs) ∷ []) (settled_rows s.rules pending rows)) None idle false)
-      go true = (rw (other, other, first_char letter (v ∷ vs) ascii, encode_ascii letter ascii, found, bare) refl, rw (other, other, first_char letter (v ∷ vs) ascii, encode_ascii letter ascii, found, bare, ok) refl)
-      go false = (rw (other, other, first_char letter (v ∷ vs) ascii, encode_ascii letter ascii, found, bare) refl, rw (other, other, first_char letter (v ∷ vs) ascii, encode_ascii letter ascii, found, bare, ok) refl)
+      go : (b : Bool)
+          → Goes s (walk_at rows pending (waiting_at b) false) (45 ∷ letter ∷ v ∷ vs) (walk_at (with_values name AsWritten CommandLine ((v ∷ vs) ∷ []) (settled_rows s.rules pending rows)) None idle false)
+      go true =
+          (rw (other, other, first_char letter (v ∷ vs) ascii, encode_ascii letter ascii, found, bare) refl, rw (other, other, first_char letter (v ∷ vs) ascii, encode_ascii letter ascii, found, bare, ok) refl)
+      go false =
+          (rw (other, other, first_char letter (v ∷ vs) ascii, encode_ascii letter ascii, found, bare) refl, rw (other, other, first_char letter (v ∷ vs) ascii, encode_ascii letter ascii, found, bare, ok) refl)
 
 -- ---- a word with no dash
 
@@ -132,7 +144,8 @@ pub plain_argument : (s : Shape) (rows : List clap.Row) (pending : Option (Text 
 unfolding walked
 plain_argument s rows pending busy word name long short index ok e found = go busy
   where
-    go : (b : Bool) → Goes s (walk_at rows pending (waiting_at b) false) word (walk_at (settled_rows s.rules pending rows) (Some (name, word ∷ [])) positional false)
+    go : (b : Bool)
+        → Goes s (walk_at rows pending (waiting_at b) false) word (walk_at (settled_rows s.rules pending rows) (Some (name, word ∷ [])) positional false)
     go true = let u = undashed word e in (rw (u.0, u.1, u.2, found, and_no) refl, rw (u.0, u.1, u.2, found, and_no, ok) refl)
     go false = let u = undashed word e in (rw (u.0, u.1, u.2, found, and_no) refl, rw (u.0, u.1, u.2, found, and_no, ok) refl)
 
@@ -140,7 +153,8 @@ pub option_value : (s : Shape) (rows : List clap.Row) (word name : Text) (long :
     → arg_by_id s.rules name ≡ Some (told_as name long short index false)
     → Goes s (walk_at rows (Some (name, [])) (option name) false) word (walk_at rows (Some (name, word ∷ [])) idle false)
 unfolding walked
-option_value s rows word name long short index e found = let u = undashed word e in (rw (u.0, u.1, u.2, found, same name) refl, rw (u.0, u.1, u.2) refl)
+option_value s rows word name long short index e found =
+    let u = undashed word e in (rw (u.0, u.1, u.2, found, same name) refl, rw (u.0, u.1, u.2) refl)
   where
     same : (name : Text) → bytes_eq name name ≡ true
     same name = (bytes_eq-Decides name name).1 refl

@@ -51,7 +51,8 @@ none_before p [] h = tt
 none_before p (q ∷ qs) h = (less_back p q h.0, none_before p qs h.1)
 
 -- the test passes at a path, between others
-passes : (test : List ℕ → Bool) (p : List ℕ) (xs ys : List (List ℕ)) → test p ≡ true → filter test (xs ++ p ∷ ys) ≡ filter test xs ++ p ∷ filter test ys
+passes : (test : List ℕ → Bool) (p : List ℕ) (xs ys : List (List ℕ)) → test p ≡ true
+    → filter test (xs ++ p ∷ ys) ≡ filter test xs ++ p ∷ filter test ys
 passes test p xs ys is = filter-append test xs (p ∷ ys) ∙ ap (λ (b : Bool). filter test xs ++ cond b (p ∷ filter test ys) (filter test ys)) is
 
 -- the first map has a path before all others
@@ -77,7 +78,8 @@ right_first p b ms hs over up =
     (together (λ q. is_less q p ≡ false) (filter test (paths_of ms)) (p ∷ filter test (paths_of hs)) (none_before p _ front) (not_less_itself p, none_before p _ back))
 
 -- both have it, with other entries
-pub both_first : (p : List ℕ) (a b : Entry) (ms hs : Entries) → same_entry (Some a) (Some b) ≡ false → AllAfter p ms → AllAfter p hs → first_difference ((p, a) ∷ ms) ((p, b) ∷ hs) ≡ Some p
+pub both_first : (p : List ℕ) (a b : Entry) (ms hs : Entries) → same_entry (Some a) (Some b) ≡ false → AllAfter p ms → AllAfter p hs
+    → first_difference ((p, a) ∷ ms) ((p, b) ∷ hs) ≡ Some p
 unfolding first_difference
 both_first p a b ms hs other up also =
     let test : List ℕ → Bool = differ ((p, a) ∷ ms) ((p, b) ∷ hs) in
@@ -87,7 +89,8 @@ both_first p a b ms hs other up also =
     ap least (passes test p [] others is) ∙ least_at [] (filter test others) p tt (not_less_itself p, kept (λ q. is_less q p ≡ false) test others all)
 
 -- both have it, with the same entry
-pub both_same : (p : List ℕ) (a b : Entry) (ms hs : Entries) → same_entry (Some a) (Some b) ≡ true → AllAfter p ms → AllAfter p hs → first_difference ((p, a) ∷ ms) ((p, b) ∷ hs) ≡ first_difference ms hs
+pub both_same : (p : List ℕ) (a b : Entry) (ms hs : Entries) → same_entry (Some a) (Some b) ≡ true → AllAfter p ms → AllAfter p hs
+    → first_difference ((p, a) ∷ ms) ((p, b) ∷ hs) ≡ first_difference ms hs
 unfolding first_difference
 both_same p a b ms hs same up also =
     let test : List ℕ → Bool = differ ((p, a) ∷ ms) ((p, b) ∷ hs) in

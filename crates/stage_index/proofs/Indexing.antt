@@ -15,7 +15,8 @@ use Rattle.stage_index.specs.Stages.{Entries, map_of, row_of}
 abbrev entry_of : List ℕ × Entry → IndexEntry
 entry_of e = record { path = e.0; stage = 0; mode = e.1.mode; id = e.1.id }
 
-rows_precede : (e : List ℕ × Entry) (es : Entries) → AllByRecursion (λ d. is_less e.0 d.0 ≡ true) es → AllByRecursion (λ d. clashes e.0 d.0 ≡ false) es → AllByRecursion (λ d. may_precede (entry_of e) d ≡ true) (indexed es)
+rows_precede : (e : List ℕ × Entry) (es : Entries) → AllByRecursion (λ d. is_less e.0 d.0 ≡ true) es
+    → AllByRecursion (λ d. clashes e.0 d.0 ≡ false) es → AllByRecursion (λ d. may_precede (entry_of e) d ≡ true) (indexed es)
 rows_precede e [] less apart = tt
 rows_precede e (d ∷ es) less apart =
     (and_from (comes_before (entry_of e) (entry_of d)) (not (holds (entry_of e) (entry_of d))) (or_left (is_less e.0 d.0) _ less.0) (not_from_false (is_below e.0 d.0) (neither (is_below e.0 d.0) (is_below d.0 e.0) apart.0)), rows_precede e es less.1 apart.1)
@@ -57,7 +58,8 @@ take_one [] n e h = absurd cc
 take_one (d ∷ es) zero e h = let k : d ≡ e = cc in ap (λ (x : List ℕ × Entry). x ∷ []) k
 take_one (d ∷ es) (suc n) e h = let k : suc n + 1 ≡ suc (n + 1) = omega arith in rw k (ap (λ (m : Entries). d ∷ m) (take_one es n e h))
 
-pub indexed_more : (es : Entries) (n : ℕ) (e : List ℕ × Entry) → slice_get es n ≡ Some e → indexed (take (n + 1) es) ≡ indexed (take n es) ++ entry_of e ∷ []
+pub indexed_more : (es : Entries) (n : ℕ) (e : List ℕ × Entry) → slice_get es n ≡ Some e
+    → indexed (take (n + 1) es) ≡ indexed (take n es) ++ entry_of e ∷ []
 indexed_more es n e h = ap indexed (take_one es n e h) ∙ map-append entry_of (take n es) (e ∷ [])
 
 pub row_within : (es : Entries) (n : ℕ) (e : List ℕ × Entry) → slice_get es n ≡ Some e → n < length es

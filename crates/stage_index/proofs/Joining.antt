@@ -22,7 +22,8 @@ joins : (m more : Entries) (e : IndexEntry) (es : List IndexEntry) → with_entr
 unfolding with_entries
 joins m more e es is = rw is refl
 
-pub joined_at : (m more : Entries) (entries rest : List IndexEntry) (e : IndexEntry) → with_entries m rest ≡ with_entries [] entries → 0 < length rest → e ≡ get_or rest 0 e → with_entry m e ≡ Ok more
+pub joined_at : (m more : Entries) (entries rest : List IndexEntry) (e : IndexEntry) → with_entries m rest ≡ with_entries [] entries → 0 < length rest
+    → e ≡ get_or rest 0 e → with_entry m e ≡ Ok more
     → with_entries more (take (length rest - 1) (drop 1 rest)) ≡ with_entries [] entries
 joined_at m more entries rest e so_far some first is =
     let others = take (length rest - 1) (drop 1 rest) in
@@ -32,14 +33,16 @@ fails : (m : Entries) (e : IndexEntry) (es : List IndexEntry) (fault : StageFaul
 unfolding with_entries
 fails m e es fault is = rw is refl
 
-pub refused_at : (m : Entries) (entries rest : List IndexEntry) (e : IndexEntry) (fault : StageFault) → with_entries m rest ≡ with_entries [] entries → 0 < length rest → e ≡ get_or rest 0 e
+pub refused_at : (m : Entries) (entries rest : List IndexEntry) (e : IndexEntry) (fault : StageFault) → with_entries m rest ≡ with_entries [] entries
+    → 0 < length rest → e ≡ get_or rest 0 e
     → GivesMap {X = Entries} (λ x. x) (Err fault) (with_entry m e) → GivesMap {X = Entries} (λ x. x) (Err fault) (with_entries [] entries)
 refused_at m entries rest e fault so_far some first gives = at fault gives
   where
     whole : (f : StageFault) → with_entry m e ≡ Err f → with_entries [] entries ≡ Err f
     whole f is = sym so_far ∙ ap (with_entries m) (first_and_others rest e some first) ∙ fails m e (take (length rest - 1) (drop 1 rest)) f is
 
-    at : (f : StageFault) → GivesMap {X = Entries} (λ x. x) (Err f) (with_entry m e) → GivesMap {X = Entries} (λ x. x) (Err f) (with_entries [] entries)
+    at : (f : StageFault) → GivesMap {X = Entries} (λ x. x) (Err f) (with_entry m e)
+        → GivesMap {X = Entries} (λ x. x) (Err f) (with_entries [] entries)
     at (Unmerged path) is = whole (Unmerged path) is
     at (Clash path) is = whole (Clash path) is
     at Memory is = tt
@@ -48,7 +51,8 @@ no_entries : (rest : List IndexEntry) → length rest ≡ 0 → rest ≡ []
 no_entries [] h = refl
 no_entries (e ∷ es) h = absurd (omega arith)
 
-pub all_joined : (m : Entries) (entries rest : List IndexEntry) → with_entries m rest ≡ with_entries [] entries → length rest ≡ 0 → with_entries [] entries ≡ Ok m
+pub all_joined : (m : Entries) (entries rest : List IndexEntry) → with_entries m rest ≡ with_entries [] entries → length rest ≡ 0
+    → with_entries [] entries ≡ Ok m
 unfolding with_entries
 all_joined m entries rest so_far none = sym so_far ∙ ap (with_entries m) (no_entries rest none)
 
@@ -70,7 +74,8 @@ put_last (r ∷ m) path entry before =
     let later = less_back r.0 path before.0 in
     rw (apart, later) (ap (λ (rows : Entries). r ∷ rows) (put_last m path entry before.1))
 
-before_more : (m : Entries) (path next : Path) (entry : Entry) → AllBefore m next → is_less path next ≡ true → AllBefore (m ++ (path, entry) ∷ []) next
+before_more : (m : Entries) (path next : Path) (entry : Entry) → AllBefore m next → is_less path next ≡ true
+    → AllBefore (m ++ (path, entry) ∷ []) next
 before_more [] path next entry before less = (less, tt)
 before_more (r ∷ m) path next entry before less = (before.0, before_more m path next entry before.1 less)
 
@@ -92,21 +97,26 @@ ahead_push (r ∷ m) e es ahead after = (ahead.0, ahead_push m e es ahead.1 afte
 unmerged_first : (m : Entries) (e : IndexEntry) (es : List IndexEntry) → is_merged e ≡ false → with_entry m e ≡ Err (Unmerged e.path)
 unmerged_first m e es is = rw is refl
 
-clash_first : (m : Entries) (e : IndexEntry) (es : List IndexEntry) (other : Path) → is_merged e ≡ true → first_clash m e.path ≡ Some other → with_entry m e ≡ Err (Clash e.path)
+clash_first : (m : Entries) (e : IndexEntry) (es : List IndexEntry) (other : Path) → is_merged e ≡ true → first_clash m e.path ≡ Some other
+    → with_entry m e ≡ Err (Clash e.path)
 clash_first m e es other is clash = rw (is, clash) refl
 
-put_first : (m : Entries) (e : IndexEntry) (es : List IndexEntry) → is_merged e ≡ true → first_clash m e.path ≡ None → with_entry m e ≡ Ok (put m e.path (row_of e).1)
+put_first : (m : Entries) (e : IndexEntry) (es : List IndexEntry) → is_merged e ≡ true → first_clash m e.path ≡ None
+    → with_entry m e ≡ Ok (put m e.path (row_of e).1)
 put_first m e es is clash = rw (is, clash) refl
 
 in_order_from : (m : Entries) (es : List IndexEntry) (all : Entries) → IsInOrder es → Ahead m es → with_entries m es ≡ Ok all → all ≡ m ++ map_of es
 unfolding with_entries
 in_order_from m [] all order ahead is = let same : m ≡ all = cc in sym same ∙ sym (append-nil m)
-in_order_from m (e ∷ es) all order ahead is = at (is_merged e) refl (first_clash m e.path) refl is (λ more rest. in_order_from (m ++ row_of e ∷ []) es all order.1 more rest)
+in_order_from m (e ∷ es) all order ahead is =
+    at (is_merged e) refl (first_clash m e.path) refl is (λ more rest. in_order_from (m ++ row_of e ∷ []) es all order.1 more rest)
   where
     at : (t : Bool) → is_merged e ≡ t → (c : Option Path) → first_clash m e.path ≡ c → with_entries m (e ∷ es) ≡ Ok all
         → (Ahead (m ++ row_of e ∷ []) es → with_entries (m ++ row_of e ∷ []) es ≡ Ok all → all ≡ (m ++ row_of e ∷ []) ++ map_of es) → all ≡ m ++ map_of (e ∷ es)
-    at false unmerged c clash is later = let never : Err (Unmerged e.path) ≡ Ok all = sym (fails m e es (Unmerged e.path) (unmerged_first m e es unmerged)) ∙ is in absurd cc
-    at true merged (Some other) clash is later = let never : Err (Clash e.path) ≡ Ok all = sym (fails m e es (Clash e.path) (clash_first m e es other merged clash)) ∙ is in absurd cc
+    at false unmerged c clash is later =
+        let never : Err (Unmerged e.path) ≡ Ok all = sym (fails m e es (Unmerged e.path) (unmerged_first m e es unmerged)) ∙ is in absurd cc
+    at true merged (Some other) clash is later =
+        let never : Err (Clash e.path) ≡ Ok all = sym (fails m e es (Clash e.path) (clash_first m e es other merged clash)) ∙ is in absurd cc
     at true merged None clash is later =
         let both = ahead_more m e es merged ahead in
         let last = put_last m e.path (row_of e).1 both.0 in

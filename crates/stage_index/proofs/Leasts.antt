@@ -14,14 +14,18 @@ one_before : (p q : List ℕ) (front rest : List (List ℕ)) → is_less p q ≡
 one_before p q [] rest h = and_left (not (is_less p q)) (is_least rest q) (not_from_true (is_less p q) h)
 one_before p q (f ∷ front) rest h = and_right (not (is_less f q)) (is_least (front ++ p ∷ rest) q) (one_before p q front rest h)
 
-found : (test : List ℕ → Bool) (front rest : List (List ℕ)) (p : List ℕ) → AllByRecursion (λ q. test q ≡ false) front → test p ≡ true → find test (front ++ p ∷ rest) ≡ Some p
+found : (test : List ℕ → Bool) (front rest : List (List ℕ)) (p : List ℕ) → AllByRecursion (λ q. test q ≡ false) front → test p ≡ true
+    → find test (front ++ p ∷ rest) ≡ Some p
 found test [] rest p h is = rw is refl
 found test (q ∷ front) rest p h is = rw h.0 (found test front rest p h.1 is)
 
-fail_all : (p : List ℕ) (front rest qs : List (List ℕ)) → AllByRecursion (λ q. is_less p q ≡ true) qs → AllByRecursion (λ q. is_least (front ++ p ∷ rest) q ≡ false) qs
+fail_all : (p : List ℕ) (front rest qs : List (List ℕ)) → AllByRecursion (λ q. is_less p q ≡ true) qs
+    → AllByRecursion (λ q. is_least (front ++ p ∷ rest) q ≡ false) qs
 fail_all p front rest [] h = tt
 fail_all p front rest (q ∷ qs) h = (one_before p q front rest h.0, fail_all p front rest qs h.1)
 
 -- those in front of it are greater, and none of all is less
-pub least_at : (front rest : List (List ℕ)) (p : List ℕ) → AllByRecursion (λ q. is_less p q ≡ true) front → AllByRecursion (λ q. is_less q p ≡ false) (front ++ p ∷ rest) → least (front ++ p ∷ rest) ≡ Some p
-least_at front rest p greater none = found (is_least (front ++ p ∷ rest)) front rest p (fail_all p front rest front greater) (none_before p (front ++ p ∷ rest) none)
+pub least_at : (front rest : List (List ℕ)) (p : List ℕ) → AllByRecursion (λ q. is_less p q ≡ true) front
+    → AllByRecursion (λ q. is_less q p ≡ false) (front ++ p ∷ rest) → least (front ++ p ∷ rest) ≡ Some p
+least_at front rest p greater none =
+    found (is_least (front ++ p ∷ rest)) front rest p (fail_all p front rest front greater) (none_before p (front ++ p ∷ rest) none)

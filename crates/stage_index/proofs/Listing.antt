@@ -32,14 +32,16 @@ listing_begins all now none = subst (Listed all all) (sym none) (record { so_far
 -- ---- one path more
 
 other_way : (p x : Path) → bytes_eq x p ≡ false → bytes_eq p x ≡ false
-other_way p x apart = false_from_ne_true (bytes_eq p x) (λ is. both_ways (bytes_eq x p) apart ((bytes_eq-Decides x p).1 (sym ((bytes_eq-Decides p x).0 is))))
+other_way p x apart =
+    false_from_ne_true (bytes_eq p x) (λ is. both_ways (bytes_eq x p) apart ((bytes_eq-Decides x p).1 (sym ((bytes_eq-Decides p x).0 is))))
 
 -- what is listed already
 dropped : (now : List Path) (p : Path) (xs : List Path) → is_listed now p ≡ true → unlisted now (without p xs) ≡ unlisted now xs
 dropped now p [] there = refl
 dropped now p (x ∷ xs) there = at (bytes_eq x p) refl (dropped now p xs there)
   where
-    at : (t : Bool) → bytes_eq x p ≡ t → unlisted now (without p xs) ≡ unlisted now xs → unlisted now (cond (not t) (x ∷ without p xs) (without p xs)) ≡ cond (not (is_listed now x)) (x ∷ unlisted now xs) (unlisted now xs)
+    at : (t : Bool) → bytes_eq x p ≡ t → unlisted now (without p xs) ≡ unlisted now xs
+        → unlisted now (cond (not t) (x ∷ without p xs) (without p xs)) ≡ cond (not (is_listed now x)) (x ∷ unlisted now xs) (unlisted now xs)
     at true same later =
         let listed : is_listed now x ≡ true = ap (is_listed now) ((bytes_eq-Decides x p).0 same) ∙ there in
         later ∙ sym (ap (λ (t : Bool). cond (not t) (x ∷ unlisted now xs) (unlisted now xs)) listed)
@@ -57,7 +59,8 @@ listed_more : (now : List Path) (p x : Path) → is_listed (now ++ p ∷ []) x �
 listed_more [] p x = or_false (bytes_eq p x)
 listed_more (n ∷ now) p x = at (bytes_eq n x) (listed_more now p x)
   where
-    at : (t : Bool) → is_listed (now ++ p ∷ []) x ≡ is_listed now x || bytes_eq p x → t || is_listed (now ++ p ∷ []) x ≡ (t || is_listed now x) || bytes_eq p x
+    at : (t : Bool) → is_listed (now ++ p ∷ []) x ≡ is_listed now x || bytes_eq p x
+        → t || is_listed (now ++ p ∷ []) x ≡ (t || is_listed now x) || bytes_eq p x
     at true later = refl
     at false later = later
 
@@ -76,7 +79,8 @@ added now p (x ∷ xs) = at (bytes_eq x p) refl (added now p xs)
         ap (λ (ys : List Path). cond (not (is_listed now x)) (x ∷ ys) ys) later
         ∙ sym (ap (λ (t : Bool). cond (not t) (x ∷ unlisted (now ++ p ∷ []) xs) (unlisted (now ++ p ∷ []) xs)) listed)
 
-one_more : (now : List Path) (e : IndexEntry) (es : List IndexEntry) → now ++ unlisted now (unmerged_paths (e ∷ es)) ≡ listed_too now e ++ unlisted (listed_too now e) (unmerged_paths es)
+one_more : (now : List Path) (e : IndexEntry) (es : List IndexEntry)
+    → now ++ unlisted now (unmerged_paths (e ∷ es)) ≡ listed_too now e ++ unlisted (listed_too now e) (unmerged_paths es)
 one_more now e es = at (is_merged e) (is_listed now e.path) refl
   where
     rest : List Path
@@ -91,11 +95,14 @@ one_more now e es = at (is_merged e) (is_listed now e.path) refl
         ap (λ (ys : List Path). now ++ ys) (ap (λ (t : Bool). cond (not t) (e.path ∷ unlisted now (without e.path rest)) (unlisted now (without e.path rest))) is ∙ ap (λ (ys : List Path). e.path ∷ ys) (added now e.path rest))
         ∙ sym (append_assoc now (e.path ∷ []) (unlisted (now ++ e.path ∷ []) rest))
 
-pub listed_at : (all rest : List IndexEntry) (now next : List Path) (e : IndexEntry) → Listed all rest now → 0 < length rest → e ≡ get_or rest 0 e → next ≡ listed_too now e → Listed all (take (length rest - 1) (drop 1 rest)) next
+pub listed_at : (all rest : List IndexEntry) (now next : List Path) (e : IndexEntry) → Listed all rest now → 0 < length rest → e ≡ get_or rest 0 e
+    → next ≡ listed_too now e → Listed all (take (length rest - 1) (drop 1 rest)) next
 listed_at all rest now next e listed some first is =
     let others = take (length rest - 1) (drop 1 rest) in
     subst (Listed all others) (sym is) (record {
-      so_far = listed.so_far ∙ ap (λ (es : List IndexEntry). now ++ unlisted now (unmerged_paths es)) (first_and_others rest e some first) ∙ one_more now e others;
+      so_far =
+          listed.so_far ∙ ap (λ (es : List IndexEntry). now ++ unlisted now (unmerged_paths es)) (first_and_others rest e some first)
+          ∙ one_more now e others;
     })
 
 no_entries : (rest : List IndexEntry) → length rest ≡ 0 → rest ≡ []
@@ -103,4 +110,5 @@ no_entries [] h = refl
 no_entries (e ∷ es) h = absurd (omega arith)
 
 pub all_listed : (all rest : List IndexEntry) (now : List Path) → Listed all rest now → length rest ≡ 0 → now ≡ unmerged_paths all
-all_listed all rest now listed none = sym (listed.so_far ∙ ap (λ (es : List IndexEntry). now ++ unlisted now (unmerged_paths es)) (no_entries rest none) ∙ append-nil now)
+all_listed all rest now listed none =
+    sym (listed.so_far ∙ ap (λ (es : List IndexEntry). now ++ unlisted now (unmerged_paths es)) (no_entries rest none) ∙ append-nil now)

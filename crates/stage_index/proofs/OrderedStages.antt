@@ -24,12 +24,14 @@ precedes e d less apart = and_from (comes_before e d) (not (holds e d)) (or_left
 less_later : (path : Path) (e d : IndexEntry) → is_less path e.path ≡ true → may_precede e d ≡ true → is_less path d.path ≡ true
 less_later path e d less h = at (is_less e.path d.path) refl (bytes_eq e.path d.path) refl (and_parts (comes_before e d) (not (holds e d)) h).0
   where
-    at : (t : Bool) → is_less e.path d.path ≡ t → (u : Bool) → bytes_eq e.path d.path ≡ u → t || (u && (nat_lt 0 e.stage && nat_lt e.stage d.stage)) ≡ true → is_less path d.path ≡ true
+    at : (t : Bool) → is_less e.path d.path ≡ t → (u : Bool) → bytes_eq e.path d.path ≡ u
+        → t || (u && (nat_lt 0 e.stage && nat_lt e.stage d.stage)) ≡ true → is_less path d.path ≡ true
     at true more u same k = less_chain path e.path d.path less more
     at false more true same k = subst (λ (p : Path). is_less path p ≡ true) ((bytes_eq-Decides e.path d.path).0 same) less
     at false more false same k = absurd cc
 
-all_placed : (P : IndexEntry → Type 0) (es new : List IndexEntry) (path : Path) → AllByRecursion P es → AllByRecursion P new → AllByRecursion P (placed es path new)
+all_placed : (P : IndexEntry → Type 0) (es new : List IndexEntry) (path : Path) → AllByRecursion P es → AllByRecursion P new
+    → AllByRecursion P (placed es path new)
 all_placed P [] new path first second = second
 all_placed P (e ∷ es) new path first second = at (is_less path e.path) (all_placed P es new path first.1 second)
   where
@@ -45,11 +47,14 @@ abbrev AllAt : Path → List IndexEntry → Type 0
 AllAt path ns = AllByRecursion (λ n. n.path ≡ path) ns
 
 -- one of the path comes before entries behind it
-leads_behind : (n : IndexEntry) (path : Path) (es : List IndexEntry) → n.path ≡ path → AllByRecursion (λ d. is_less path d.path ≡ true) es → AllByRecursion (λ d. holds n d ≡ false) es → Leads n es
+leads_behind : (n : IndexEntry) (path : Path) (es : List IndexEntry) → n.path ≡ path → AllByRecursion (λ d. is_less path d.path ≡ true) es
+    → AllByRecursion (λ d. holds n d ≡ false) es → Leads n es
 leads_behind n path [] at less apart = tt
-leads_behind n path (d ∷ es) at less apart = (precedes n d (subst (λ (p : Path). is_less p d.path ≡ true) (sym at) less.0) apart.0, leads_behind n path es at less.1 apart.1)
+leads_behind n path (d ∷ es) at less apart =
+    (precedes n d (subst (λ (p : Path). is_less p d.path ≡ true) (sym at) less.0) apart.0, leads_behind n path es at less.1 apart.1)
 
-behind_all : (path : Path) (e : IndexEntry) (es : List IndexEntry) → is_less path e.path ≡ true → Leads e es → AllByRecursion (λ d. is_less path d.path ≡ true) es
+behind_all : (path : Path) (e : IndexEntry) (es : List IndexEntry) → is_less path e.path ≡ true → Leads e es
+    → AllByRecursion (λ d. is_less path d.path ≡ true) es
 behind_all path e [] less leads = tt
 behind_all path e (d ∷ es) less leads = (less_later path e d less leads.0, behind_all path e es less leads.1)
 
@@ -62,22 +67,27 @@ apart_rest : (n : IndexEntry) (es ns : List IndexEntry) → NoneClashes es (n �
 apart_rest n [] ns apart = tt
 apart_rest n (d ∷ es) ns apart = (apart.0.1, apart_rest n es ns apart.1)
 
-in_front : (new es : List IndexEntry) (path : Path) → IsInOrder new → AllAt path new → IsInOrder es → AllByRecursion (λ d. is_less path d.path ≡ true) es → NoneClashes es new → IsInOrder (new ++ es)
+in_front : (new es : List IndexEntry) (path : Path) → IsInOrder new → AllAt path new → IsInOrder es
+    → AllByRecursion (λ d. is_less path d.path ≡ true) es → NoneClashes es new → IsInOrder (new ++ es)
 in_front [] es path order at behind less apart = behind
-in_front (n ∷ ns) es path order at behind less apart = (leads_both ns order.0, in_front ns es path order.1 at.1 behind less (apart_rest n es ns apart))
+in_front (n ∷ ns) es path order at behind less apart =
+    (leads_both ns order.0, in_front ns es path order.1 at.1 behind less (apart_rest n es ns apart))
   where
     leads_both : (ms : List IndexEntry) → Leads n ms → Leads n (ms ++ es)
     leads_both [] leads = leads_behind n path es at.0 less (apart_back n es ns apart)
     leads_both (m ∷ ms) leads = (leads.0, leads_both ms leads.1)
 
-before_new : (e : IndexEntry) (path : Path) (new : List IndexEntry) → is_less e.path path ≡ true → AllAt path new → AllByRecursion (λ n. holds e n || holds n e ≡ false) new → Leads e new
+before_new : (e : IndexEntry) (path : Path) (new : List IndexEntry) → is_less e.path path ≡ true → AllAt path new
+    → AllByRecursion (λ n. holds e n || holds n e ≡ false) new → Leads e new
 before_new e path [] less at apart = tt
 before_new e path (n ∷ ns) less at apart =
     (precedes e n (subst (λ (p : Path). is_less e.path p ≡ true) (sym at.0) less) (or_parts (holds e n) (holds n e) apart.0).0, before_new e path ns less at.1 apart.1)
 
-order_placed : (es new : List IndexEntry) (path : Path) → IsInOrder es → AllByRecursion (λ e. bytes_eq e.path path ≡ false) es → IsInOrder new → AllAt path new → NoneClashes es new → IsInOrder (placed es path new)
+order_placed : (es new : List IndexEntry) (path : Path) → IsInOrder es → AllByRecursion (λ e. bytes_eq e.path path ≡ false) es → IsInOrder new
+    → AllAt path new → NoneClashes es new → IsInOrder (placed es path new)
 order_placed [] new path order others first here apart = first
-order_placed (e ∷ es) new path order others first here apart = at (is_less path e.path) refl (order_placed es new path order.1 others.1 first here apart.1)
+order_placed (e ∷ es) new path order others first here apart =
+    at (is_less path e.path) refl (order_placed es new path order.1 others.1 first here apart.1)
   where
     at : (t : Bool) → is_less path e.path ≡ t → IsInOrder (placed es path new) → IsInOrder (cond t (new ++ e ∷ es) (e ∷ placed es path new))
     at true less later = in_front new (e ∷ es) path first here order (less, behind_all path e es less order.0) apart
@@ -107,7 +117,8 @@ are_others : (es : List IndexEntry) (path : Path) → AllByRecursion (λ e. byte
 are_others [] path = tt
 are_others (e ∷ es) path = at (bytes_eq e.path path) refl (are_others es path)
   where
-    at : (t : Bool) → bytes_eq e.path path ≡ t → AllByRecursion (λ e. bytes_eq e.path path ≡ false) (others_of es path) → AllByRecursion (λ e. bytes_eq e.path path ≡ false) (cond (not t) (e ∷ others_of es path) (others_of es path))
+    at : (t : Bool) → bytes_eq e.path path ≡ t → AllByRecursion (λ e. bytes_eq e.path path ≡ false) (others_of es path)
+        → AllByRecursion (λ e. bytes_eq e.path path ≡ false) (cond (not t) (e ∷ others_of es path) (others_of es path))
     at true is later = later
     at false is later = (is, later)
 
@@ -116,5 +127,7 @@ all_here path stage [] = tt
 all_here path stage (None ∷ es) = all_here path (stage + 1) es
 all_here path stage (Some e ∷ es) = (refl, all_here path (stage + 1) es)
 
-pub set_in_order : (es : List IndexEntry) (path : Path) (stages : List (Option Entry)) → IsInOrder es → IsInOrder (staged_as path stages) → NoneClashes (others_of es path) (staged_as path stages) → IsInOrder (with_stages es path stages)
-set_in_order es path stages order first apart = order_placed (others_of es path) (staged_as path stages) path (kept_order es path order) (are_others es path) first (all_here path 0 stages) apart
+pub set_in_order : (es : List IndexEntry) (path : Path) (stages : List (Option Entry)) → IsInOrder es → IsInOrder (staged_as path stages)
+    → NoneClashes (others_of es path) (staged_as path stages) → IsInOrder (with_stages es path stages)
+set_in_order es path stages order first apart =
+    order_placed (others_of es path) (staged_as path stages) path (kept_order es path order) (are_others es path) first (all_here path 0 stages) apart

@@ -25,7 +25,8 @@ use Rattle.stage_index.proofs.Orders.{less_apart, less_from, more_apart, same_pa
 
 -- ---- the order of an index by a path
 
-in_pairs : (from : List IndexEntry) → IsInOrder from → (i j : ℕ) (d : IndexEntry) → i < j → j < length from → may_precede (get_or from i d) (get_or from j d) ≡ true
+in_pairs : (from : List IndexEntry) → IsInOrder from → (i j : ℕ) (d : IndexEntry) → i < j → j < length from
+    → may_precede (get_or from i d) (get_or from j d) ≡ true
 in_pairs [] order i j d lt within = absurd (omega arith)
 in_pairs (e ∷ es) order i zero d lt within = absurd (omega arith)
 in_pairs (e ∷ es) order zero (suc j) d lt within = All-from_recursion (λ f. may_precede e f ≡ true) es order.0 j d (omega arith)
@@ -37,8 +38,10 @@ ways true b n c h = inl refl
 ways false true n c h = inr (refl, h)
 ways false false n c h = absurd cc
 
-way : (e d : IndexEntry) → may_precede e d ≡ true → (is_less e.path d.path ≡ true) ⊎ ((bytes_eq e.path d.path ≡ true) × (nat_lt 0 e.stage && nat_lt e.stage d.stage ≡ true))
-way e d h = ways (is_less e.path d.path) (bytes_eq e.path d.path) e.stage (nat_lt e.stage d.stage) (and_parts (comes_before e d) (not (holds e d)) h).0
+way : (e d : IndexEntry) → may_precede e d ≡ true
+    → (is_less e.path d.path ≡ true) ⊎ ((bytes_eq e.path d.path ≡ true) × (nat_lt 0 e.stage && nat_lt e.stage d.stage ≡ true))
+way e d h =
+    ways (is_less e.path d.path) (bytes_eq e.path d.path) e.stage (nat_lt e.stage d.stage) (and_parts (comes_before e d) (not (holds e d)) h).0
 
 at_most_two : (o : Ordering) → ordering_index o ≤ 2
 at_most_two Less = omega arith
@@ -72,17 +75,20 @@ rises from path order i j d le within = elim (cases_lt i j) [
 abbrev pub order_by : List ℕ → IndexEntry → Ordering
 order_by path e = slice_cmp nat_cmp e.path path
 
-pub tracked_at : (from : List IndexEntry) (path : List ℕ) (n : ℕ) (e : IndexEntry) → n < length from → e ≡ get_or from n e → HoldsAt (λ d. order_by path d ≡ Equal) from n → true ≡ is_tracked from path
+pub tracked_at : (from : List IndexEntry) (path : List ℕ) (n : ℕ) (e : IndexEntry) → n < length from → e ≡ get_or from n e
+    → HoldsAt (λ d. order_by path d ≡ Equal) from n → true ≡ is_tracked from path
 tracked_at from path n e lt is found =
     sym (list_any_at (λ (d : IndexEntry). bytes_eq d.path path) from n e lt (sym (is_eq-slice_cmp (get_or from n e).path path) ∙ ap is_eq (found e)))
 
-not_there : (from : List IndexEntry) (path : List ℕ) (n : ℕ) → IsPartitionPoint (λ d. order_by path d ≡ Less) (λ d. order_by path d ≡ Greater) from n → is_tracked from path ≡ false
+not_there : (from : List IndexEntry) (path : List ℕ) (n : ℕ) → IsPartitionPoint (λ d. order_by path d ≡ Less) (λ d. order_by path d ≡ Greater) from n
+    → is_tracked from path ≡ false
 not_there from path n parted = list_any_none (λ (d : IndexEntry). bytes_eq d.path path) from (λ k d within. elim (cases_lt k n) [
   | inl lt ↦ sym (is_eq-slice_cmp (get_or from k d).path path) ∙ ap is_eq (parted.0 k d (omega arith) lt)
   | inr ge ↦ sym (is_eq-slice_cmp (get_or from k d).path path) ∙ ap is_eq (parted.1 k d ge within)
 ])
 
-pub untracked_at : (from : List IndexEntry) (path : List ℕ) (n : ℕ) → IsPartitionPoint (λ d. order_by path d ≡ Less) (λ d. order_by path d ≡ Greater) from n → false ≡ is_tracked from path
+pub untracked_at : (from : List IndexEntry) (path : List ℕ) (n : ℕ)
+    → IsPartitionPoint (λ d. order_by path d ≡ Less) (λ d. order_by path d ≡ Greater) from n → false ≡ is_tracked from path
 untracked_at from path n parted = sym (not_there from path n parted)
 
 -- ---- what the map has there
@@ -93,12 +99,14 @@ untracked_entry (e ∷ es) path h =
     let both = or_parts (bytes_eq e.path path) (is_tracked es path) h in
     at both.0 (is_merged e) (untracked_entry es path both.1)
   where
-    at : bytes_eq e.path path ≡ false → (t : Bool) → entry_at (map_of es) path ≡ None → entry_at (map row_of (cond t (e ∷ filter is_merged es) (filter is_merged es))) path ≡ None
+    at : bytes_eq e.path path ≡ false → (t : Bool) → entry_at (map_of es) path ≡ None
+        → entry_at (map row_of (cond t (e ∷ filter is_merged es) (filter is_merged es))) path ≡ None
     at other true later = rw other later
     at other false later = later
 
 -- behind an unmerged entry its path is not merged
-none_merged : (e : IndexEntry) (es : List IndexEntry) → is_merged e ≡ false → AllByRecursion (λ d. may_precede e d ≡ true) es → entry_at (map_of es) e.path ≡ None
+none_merged : (e : IndexEntry) (es : List IndexEntry) → is_merged e ≡ false → AllByRecursion (λ d. may_precede e d ≡ true) es
+    → entry_at (map_of es) e.path ≡ None
 none_merged e [] unmerged h = refl
 none_merged e (d ∷ es) unmerged h = at (is_merged d) refl (none_merged e es unmerged h.1)
   where
@@ -112,7 +120,8 @@ none_merged e (d ∷ es) unmerged h = at (is_merged d) refl (none_merged e es un
       | inr tied ↦ absurd (positive e.stage d.stage tied.1 merged)
     ]
 
-    at : (t : Bool) → is_merged d ≡ t → entry_at (map_of es) e.path ≡ None → entry_at (map row_of (cond t (d ∷ filter is_merged es) (filter is_merged es))) e.path ≡ None
+    at : (t : Bool) → is_merged d ≡ t → entry_at (map_of es) e.path ≡ None
+        → entry_at (map row_of (cond t (d ∷ filter is_merged es) (filter is_merged es))) e.path ≡ None
     at true merged later = rw (other merged) later
     at false merged later = later
 
@@ -124,38 +133,49 @@ other_path e d merged h = elim (way e d h) [
 ]
   where
     zero_stage : (n : ℕ) (c : Bool) → (n == 0) ≡ true → nat_lt 0 n && c ≡ true → ⊥
-    zero_stage n c zero_is h = let e : n ≡ 0 = eqb-true n 0 zero_is in let k : nat_lt 0 0 && c ≡ true = subst (λ (x : ℕ). nat_lt 0 x && c ≡ true) e h in cc
+    zero_stage n c zero_is h =
+        let e : n ≡ 0 = eqb-true n 0 zero_is in let k : nat_lt 0 0 && c ≡ true = subst (λ (x : ℕ). nat_lt 0 x && c ≡ true) e h in cc
 
-pub found_entry : (from : List IndexEntry) (n : ℕ) (e : IndexEntry) → IsInOrder from → n < length from → e ≡ get_or from n e → merged_entry (Some e) ≡ entry_at (map_of from) e.path
+pub found_entry : (from : List IndexEntry) (n : ℕ) (e : IndexEntry) → IsInOrder from → n < length from → e ≡ get_or from n e
+    → merged_entry (Some e) ≡ entry_at (map_of from) e.path
 found_entry [] n e order lt is = absurd (omega arith)
-found_entry (d ∷ es) zero e order lt is = subst (λ (f : IndexEntry). merged_entry (Some f) ≡ entry_at (map_of (d ∷ es)) f.path) (sym is) (at (is_merged d) refl)
+found_entry (d ∷ es) zero e order lt is =
+    subst (λ (f : IndexEntry). merged_entry (Some f) ≡ entry_at (map_of (d ∷ es)) f.path) (sym is) (at (is_merged d) refl)
   where
-    at : (t : Bool) → is_merged d ≡ t → cond t (Some (row_of d).1) None ≡ entry_at (map row_of (cond t (d ∷ filter is_merged es) (filter is_merged es))) d.path
+    at : (t : Bool) → is_merged d ≡ t
+        → cond t (Some (row_of d).1) None ≡ entry_at (map row_of (cond t (d ∷ filter is_merged es) (filter is_merged es))) d.path
     at true merged = rw (same_path d.path) refl
     at false merged = sym (none_merged d es merged order.0)
 found_entry (d ∷ es) (suc n) e order lt is = found_entry es n e order.1 (omega arith) is ∙ at (is_merged d) refl
   where
     before : may_precede d e ≡ true
-    before = subst (λ (f : IndexEntry). may_precede d f ≡ true) (sym is) (All-from_recursion (λ f. may_precede d f ≡ true) es order.0 n e (omega arith))
+    before =
+        subst (λ (f : IndexEntry). may_precede d f ≡ true) (sym is) (All-from_recursion (λ f. may_precede d f ≡ true) es order.0 n e (omega arith))
 
-    at : (t : Bool) → is_merged d ≡ t → entry_at (map_of es) e.path ≡ entry_at (map row_of (cond t (d ∷ filter is_merged es) (filter is_merged es))) e.path
+    at : (t : Bool) → is_merged d ≡ t
+        → entry_at (map_of es) e.path ≡ entry_at (map row_of (cond t (d ∷ filter is_merged es) (filter is_merged es))) e.path
     at true merged = rw (other_path d e merged before) refl
     at false merged = refl
 
-pub found_at : (from : List IndexEntry) (path : List ℕ) (n : ℕ) (e : IndexEntry) → IsInOrder from → n < length from → e ≡ get_or from n e → HoldsAt (λ d. order_by path d ≡ Equal) from n → merged_entry (Some e) ≡ entry_at (map_of from) path
+pub found_at : (from : List IndexEntry) (path : List ℕ) (n : ℕ) (e : IndexEntry) → IsInOrder from → n < length from → e ≡ get_or from n e
+    → HoldsAt (λ d. order_by path d ≡ Equal) from n → merged_entry (Some e) ≡ entry_at (map_of from) path
 found_at from path n e order lt is found =
     let same : e.path ≡ path = ap (λ (f : IndexEntry). f.path) is ∙ exact_bytes (get_or from n e).path path (found e) in
     found_entry from n e order lt is ∙ ap (entry_at (map_of from)) same
 
 -- an entry that has the path
 
-pub tracked_here : (from : List IndexEntry) (path : List ℕ) (n : ℕ) (e : IndexEntry) → n < length from → e ≡ get_or from n e → bytes_eq e.path path ≡ true → true ≡ is_tracked from path
-tracked_here from path n e lt is same = sym (list_any_at (λ (d : IndexEntry). bytes_eq d.path path) from n e lt (subst (λ (d : IndexEntry). bytes_eq d.path path ≡ true) is same))
+pub tracked_here : (from : List IndexEntry) (path : List ℕ) (n : ℕ) (e : IndexEntry) → n < length from → e ≡ get_or from n e
+    → bytes_eq e.path path ≡ true → true ≡ is_tracked from path
+tracked_here from path n e lt is same =
+    sym (list_any_at (λ (d : IndexEntry). bytes_eq d.path path) from n e lt (subst (λ (d : IndexEntry). bytes_eq d.path path ≡ true) is same))
 
-pub found_here : (from : List IndexEntry) (path : List ℕ) (n : ℕ) (e : IndexEntry) → IsInOrder from → n < length from → e ≡ get_or from n e → bytes_eq e.path path ≡ true → merged_entry (Some e) ≡ entry_at (map_of from) path
+pub found_here : (from : List IndexEntry) (path : List ℕ) (n : ℕ) (e : IndexEntry) → IsInOrder from → n < length from → e ≡ get_or from n e
+    → bytes_eq e.path path ≡ true → merged_entry (Some e) ≡ entry_at (map_of from) path
 found_here from path n e order lt is same = found_entry from n e order lt is ∙ ap (entry_at (map_of from)) ((bytes_eq-Decides e.path path).0 same)
 
-pub missing_at : (from : List IndexEntry) (path : List ℕ) (n : ℕ) → IsPartitionPoint (λ d. order_by path d ≡ Less) (λ d. order_by path d ≡ Greater) from n → None ≡ entry_at (map_of from) path
+pub missing_at : (from : List IndexEntry) (path : List ℕ) (n : ℕ)
+    → IsPartitionPoint (λ d. order_by path d ≡ Less) (λ d. order_by path d ≡ Greater) from n → None ≡ entry_at (map_of from) path
 missing_at from path n parted = sym (untracked_entry from path (not_there from path n parted))
 
 -- ---- submodules
@@ -169,20 +189,24 @@ and_none true b none = absurd cc
 and_none false b none = refl
 
 -- behind a merged entry there is no submodule at its path
-none_behind : (e : IndexEntry) (es : List IndexEntry) → is_merged e ≡ true → AllByRecursion (λ d. may_precede e d ≡ true) es → is_submodule_at es e.path ≡ false
+none_behind : (e : IndexEntry) (es : List IndexEntry) → is_merged e ≡ true → AllByRecursion (λ d. may_precede e d ≡ true) es
+    → is_submodule_at es e.path ≡ false
 none_behind e [] merged h = refl
-none_behind e (d ∷ es) merged h = or_from (bytes_eq d.path e.path && is_gitlink d.mode) (is_submodule_at es e.path) (and_none (bytes_eq d.path e.path) (is_gitlink d.mode) apart) (none_behind e es merged h.1)
+none_behind e (d ∷ es) merged h =
+    or_from (bytes_eq d.path e.path && is_gitlink d.mode) (is_submodule_at es e.path) (and_none (bytes_eq d.path e.path) (is_gitlink d.mode) apart) (none_behind e es merged h.1)
   where
     apart : bytes_eq d.path e.path ≡ false
     apart = false_from_ne_true (bytes_eq d.path e.path) (λ is.
         both_ways (bytes_eq e.path d.path) (other_path e d merged h.0) ((bytes_eq-Decides e.path d.path).1 (sym ((bytes_eq-Decides d.path e.path).0 is))))
 
 -- a merged path has one entry
-merged_alone : (from : List IndexEntry) (path : List ℕ) (x : Entry) → IsInOrder from → entry_at (map_of from) path ≡ Some x → is_submodule_at from path ≡ is_gitlink x.mode
+merged_alone : (from : List IndexEntry) (path : List ℕ) (x : Entry) → IsInOrder from → entry_at (map_of from) path ≡ Some x
+    → is_submodule_at from path ≡ is_gitlink x.mode
 merged_alone [] path x order is = absurd cc
 merged_alone (e ∷ es) path x order is = at (is_merged e) refl (bytes_eq e.path path) refl is (merged_alone es path x order.1)
   where
-    at : (m : Bool) → is_merged e ≡ m → (b : Bool) → bytes_eq e.path path ≡ b → entry_at (map row_of (cond m (e ∷ filter is_merged es) (filter is_merged es))) path ≡ Some x
+    at : (m : Bool) → is_merged e ≡ m → (b : Bool) → bytes_eq e.path path ≡ b
+        → entry_at (map row_of (cond m (e ∷ filter is_merged es) (filter is_merged es))) path ≡ Some x
         → (entry_at (map_of es) path ≡ Some x → is_submodule_at es path ≡ is_gitlink x.mode) → (b && is_gitlink e.mode) || is_submodule_at es path ≡ is_gitlink x.mode
     at true merged true same is later =
         let here : e.path ≡ path = (bytes_eq-Decides e.path path).0 same in
@@ -197,7 +221,8 @@ merged_alone (e ∷ es) path x order is = at (is_merged e) refl (bytes_eq e.path
         absurd (let never : None ≡ Some x = sym none ∙ is in cc)
     at false unmerged false other is later = later is
 
-pub submodule_merged : (from : List IndexEntry) (path : List ℕ) (e : IndexEntry) → IsInOrder from → (e.stage == 0) ≡ true → merged_entry (Some e) ≡ entry_at (map_of from) path → is_gitlink e.mode ≡ is_submodule_at from path
+pub submodule_merged : (from : List IndexEntry) (path : List ℕ) (e : IndexEntry) → IsInOrder from → (e.stage == 0) ≡ true
+    → merged_entry (Some e) ≡ entry_at (map_of from) path → is_gitlink e.mode ≡ is_submodule_at from path
 submodule_merged from path e order merged is =
     let entry : entry_at (map_of from) path ≡ Some (row_of e).1 = sym is ∙ ap (λ (m : Bool). cond m (Some (row_of e).1) None) merged in
     sym (merged_alone from path (row_of e).1 order entry)

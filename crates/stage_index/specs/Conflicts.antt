@@ -45,7 +45,8 @@ is_written_file from (path, Bytes bytes) = true
 
 -- the old index lacks the path or it is written, and an untracked file is in its way
 abbrev pub is_barred : World → List IndexEntry → Path × ConflictFile → Bool
-is_barred w from f = (not (is_tracked from f.0) || is_written_file from f) && list_any (λ path. is_untracked from path && is_in_way f.0 path) (file.keys w)
+is_barred w from f =
+    (not (is_tracked from f.0) || is_written_file from f) && list_any (λ path. is_untracked from path && is_in_way f.0 path) (file.keys w)
 
 abbrev pub path_of_file : Path × ConflictFile → Path
 path_of_file f = f.0

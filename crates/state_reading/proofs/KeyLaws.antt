@@ -62,7 +62,8 @@ key_takes [] l rest e = cc
 key_takes (c ∷ key) [] rest e = absurd cc
 key_takes (c ∷ key) (b ∷ l) rest e = at (key_takes key l rest) (eqb b c) refl e
   where
-    at : (behind key l ≡ Some rest → l ≡ key ++ rest) → (v : Bool) → eqb b c ≡ v → read_behind (cond v (literal_at key l) (Err (suc (length l)))) ≡ Some rest → b ∷ l ≡ c ∷ (key ++ rest)
+    at : (behind key l ≡ Some rest → l ≡ key ++ rest) → (v : Bool) → eqb b c ≡ v
+        → read_behind (cond v (literal_at key l) (Err (suc (length l)))) ≡ Some rest → b ∷ l ≡ c ∷ (key ++ rest)
     at later true is e =
         let same = eqb-true b c is in
         let more = later e in

@@ -55,7 +55,8 @@ module _ {X : Type 0} (IsFit : X → Type 0) (text : X → List ℕ) (read : Lis
 
     all_read : (xs : List X) → AllByRecursion IsFit xs → filter_map read (map text xs) ≡ xs
     all_read [] fits = refl
-    all_read (x ∷ xs) fits = ap (λ (o : Option X). cons_option o (filter_map read (map text xs))) (again x fits.0) ∙ ap (λ (ys : List X). x ∷ ys) (all_read xs fits.1)
+    all_read (x ∷ xs) fits =
+        ap (λ (o : Option X). cons_option o (filter_map read (map text xs))) (again x fits.0) ∙ ap (λ (ys : List X). x ∷ ys) (all_read xs fits.1)
 
     pub all_fit : (ts : List (List ℕ)) → AllByRecursion IsFit (filter_map read ts)
     all_fit [] = tt
@@ -65,13 +66,15 @@ module _ {X : Type 0} (IsFit : X → Type 0) (text : X → List ℕ) (read : Lis
         at None e later = later
         at (Some x) e later = (fit t x e, later)
 
-    pub read_back : (bytes : List ℕ) (xs : List X) → AllByRecursion IsFit xs → bytes ≡ flat_map (λ x. line (text x)) xs → filter_map read (lines_of bytes) ≡ xs
+    pub read_back : (bytes : List ℕ) (xs : List X) → AllByRecursion IsFit xs → bytes ≡ flat_map (λ x. line (text x)) xs
+        → filter_map read (lines_of bytes) ≡ xs
     read_back bytes xs fits is =
         ap (λ (t : List ℕ). filter_map read (lines_of t)) (is ∙ sym (joined xs))
         ∙ ap (filter_map read) (lines_back [] (map text xs) (all_plain xs fits))
         ∙ all_read xs fits
 
-    pub recalled : (bytes : List ℕ) (xs : List X) → xs ≡ filter_map read (lines_of bytes) → Recalls (AllByRecursion IsFit) (λ ys. flat_map (λ x. line (text x)) ys) bytes xs
+    pub recalled : (bytes : List ℕ) (xs : List X) → xs ≡ filter_map read (lines_of bytes)
+        → Recalls (AllByRecursion IsFit) (λ ys. flat_map (λ x. line (text x)) ys) bytes xs
     recalled bytes xs e = record {
       fits = subst (AllByRecursion IsFit) (sym e) (all_fit (lines_of bytes));
       again = λ ys fits is. e ∙ read_back bytes ys fits is;
@@ -113,7 +116,8 @@ ref_plain name is = at (bytes_eq name (codes "HEAD")) refl is
 
 -- ---- ids
 
-pub ids_recalled : (bytes : List ℕ) (read ids : List (List ℕ)) → ids ≡ read → read ≡ filter_map id_at (lines_of bytes) → Recalls (AllByRecursion IsId) ids_text bytes ids
+pub ids_recalled : (bytes : List ℕ) (read ids : List (List ℕ)) → ids ≡ read → read ≡ filter_map id_at (lines_of bytes)
+    → Recalls (AllByRecursion IsId) ids_text bytes ids
 ids_recalled bytes read ids same is = recalled IsId encode_lower id_at id_plain id_fits id_again bytes ids (same ∙ is)
 
 -- ---- pairs
@@ -143,7 +147,8 @@ pair_fits l pair e = at (id_from l) refl e
     at (Ok x) is e = second x.0 x.1 (id_taken l x.0 x.1 is) e
     at (Err left) is e = absurd cc
 
-pub pairs_recalled : (bytes : List ℕ) (read pairs : List (List ℕ × List ℕ)) → pairs ≡ read → read ≡ filter_map pair_at (lines_of bytes) → Recalls (AllByRecursion IsIdPair) pairs_text bytes pairs
+pub pairs_recalled : (bytes : List ℕ) (read pairs : List (List ℕ × List ℕ)) → pairs ≡ read → read ≡ filter_map pair_at (lines_of bytes)
+    → Recalls (AllByRecursion IsIdPair) pairs_text bytes pairs
 pairs_recalled bytes read pairs same is = recalled IsIdPair pair_text pair_at pair_plain pair_fits pair_again bytes pairs (same ∙ is)
 
 -- ---- labels
@@ -161,7 +166,8 @@ label_fits l name e = at (is_ref_name l) refl e
     at true named e = ap is_ref_name (sym (key_takes (codes "refs/rewritten/") l name e)) ∙ named
     at false named e = absurd cc
 
-pub labels_recalled : (bytes : List ℕ) (read labels : List (List ℕ)) → labels ≡ read → read ≡ filter_map label_at (lines_of bytes) → Recalls (AllByRecursion IsLabel) labels_text bytes labels
+pub labels_recalled : (bytes : List ℕ) (read labels : List (List ℕ)) → labels ≡ read → read ≡ filter_map label_at (lines_of bytes)
+    → Recalls (AllByRecursion IsLabel) labels_text bytes labels
 labels_recalled bytes read labels same is = recalled IsLabel label_text label_at label_plain label_fits label_again bytes labels (same ∙ is)
 
 -- ---- the chain
@@ -189,7 +195,8 @@ item_again (chain.Fixup, id) is = rw (id_again id is) refl
 item_again (chain.Keep, id) is = rw (dash_is_none (codes "C " ++ encode_lower id), id_again id is) refl
 item_again (chain.KeepEdit, id) is = rw (dash_is_none (codes "c " ++ encode_lower id), id_again id is) refl
 
-item_of_fits : (kind : ChainKind) (o : Option (List ℕ)) (item : ChainKind × List ℕ) → ((id : List ℕ) → o ≡ Some id → IsId id) → item_of kind o ≡ Some item → IsItem item
+item_of_fits : (kind : ChainKind) (o : Option (List ℕ)) (item : ChainKind × List ℕ) → ((id : List ℕ) → o ≡ Some id → IsId id)
+    → item_of kind o ≡ Some item → IsItem item
 item_of_fits kind None item fit e = absurd cc
 item_of_fits kind (Some id) item fit e = let item-is : (kind, id) ≡ item = cc in subst IsItem item-is (fit id refl)
 
@@ -200,7 +207,8 @@ behind_fits (Some l) id e = id_fits l id e
 key_fits : (kind : ChainKind) (key l : List ℕ) (item : ChainKind × List ℕ) → item_behind kind key l ≡ Some item → IsItem item
 key_fits kind key l item e = item_of_fits kind (id_behind (behind key l)) item (behind_fits (behind key l)) e
 
-or_fits : (a b : Option (ChainKind × List ℕ)) (item : ChainKind × List ℕ) → (a ≡ Some item → IsItem item) → (b ≡ Some item → IsItem item) → or_item a b ≡ Some item → IsItem item
+or_fits : (a b : Option (ChainKind × List ℕ)) (item : ChainKind × List ℕ) → (a ≡ Some item → IsItem item) → (b ≡ Some item → IsItem item)
+    → or_item a b ≡ Some item → IsItem item
 or_fits None b item one two e = two e
 or_fits (Some x) b item one two e = one e
 
@@ -213,11 +221,14 @@ item_fits l item e =
     let edit = key_fits chain.KeepEdit (codes "fixup -c ") l item in
     or_fits _ _ item first (or_fits _ _ item squash (or_fits _ _ item fixup (or_fits _ _ item keep edit))) e
 
-none_first : (items : List (ChainKind × List ℕ)) → list_all goes_on items ≡ true → AllByRecursion (λ (other : ChainKind × List ℕ). is_first other.0 ≡ false) items
+none_first : (items : List (ChainKind × List ℕ)) → list_all goes_on items ≡ true
+    → AllByRecursion (λ (other : ChainKind × List ℕ). is_first other.0 ≡ false) items
 none_first [] all = tt
-none_first (item ∷ items) all = let k = and_parts (goes_on item) (list_all goes_on items) all in (not-true (is_first item.0) k.0, none_first items k.1)
+none_first (item ∷ items) all =
+    let k = and_parts (goes_on item) (list_all goes_on items) all in (not-true (is_first item.0) k.0, none_first items k.1)
 
-all_go_on : (items : List (ChainKind × List ℕ)) → AllByRecursion (λ (other : ChainKind × List ℕ). is_first other.0 ≡ false) items → list_all goes_on items ≡ true
+all_go_on : (items : List (ChainKind × List ℕ)) → AllByRecursion (λ (other : ChainKind × List ℕ). is_first other.0 ≡ false) items
+    → list_all goes_on items ≡ true
 all_go_on [] none = refl
 all_go_on (item ∷ items) none = let first = none.0 in rw first (all_go_on items none.1)
 
@@ -236,7 +247,8 @@ chain_fits items fits = at (is_chain items) refl
     at true is = (fits, chain_is items is)
     at false is = (tt, tt)
 
-pub chain_recalled : (bytes : List ℕ) (read items : List (ChainKind × List ℕ)) → items ≡ read → read ≡ chain_of (filter_map item_at (lines_of bytes)) → Recalls AreItems items_text bytes items
+pub chain_recalled : (bytes : List ℕ) (read items : List (ChainKind × List ℕ)) → items ≡ read → read ≡ chain_of (filter_map item_at (lines_of bytes))
+    → Recalls AreItems items_text bytes items
 chain_recalled bytes read items same is = let e = same ∙ is in record {
   fits = subst AreItems (sym e) (chain_fits _ (all_fit IsItem chain_text item_at item_plain item_fits item_again (lines_of bytes)));
   again = λ ys fits text.

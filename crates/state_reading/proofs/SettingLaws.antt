@@ -53,11 +53,13 @@ made : (s : Settings) (v : Verb) (e : Empty) (f r : Bool) (st : StopWord) (h : L
     → made_of v e f r st h p en ≡ s
 made s v e f r st h p en a b c d i j k l = rw (a, b, c, d, i, j, k, l) refl
 
-encoding_both : {p : Option (Form × Bool)} {en other : Option (List ℕ)} (q : Option (Form × Bool)) → p ≡ q → en ≡ other → encoding_for p en ≡ encoding_for q other
+encoding_both : {p : Option (Form × Bool)} {en other : Option (List ℕ)} (q : Option (Form × Bool)) → p ≡ q → en ≡ other
+    → encoding_for p en ≡ encoding_for q other
 encoding_both {p} {en} {other} q a b = ap (λ (o : Option (Form × Bool)). encoding_for o en) a ∙ ap (encoding_for q) b
 
 -- eight lines, and what stands behind them
-settings_read : (s : Settings) (a v e f r st h p rest : List ℕ) → HasNoFeed a → HasNoFeed v → HasNoFeed e → HasNoFeed f → HasNoFeed r → HasNoFeed st → HasNoFeed h → HasNoFeed p
+settings_read : (s : Settings) (a v e f r st h p rest : List ℕ) → HasNoFeed a → HasNoFeed v → HasNoFeed e → HasNoFeed f → HasNoFeed r → HasNoFeed st
+    → HasNoFeed h → HasNoFeed p
     → verb_at v ≡ s.verb → empty_at e ≡ s.empty → ff_at f ≡ s.ff → reschedule_at r ≡ s.reschedule → stop_at st ≡ s.stop → head_at h ≡ s.head → pending_at p ≡ s.pending
     → encoding_for s.pending (encoding_at rest) ≡ s.encoding
     → settings_at (a ++ 10 ∷ (v ++ 10 ∷ (e ++ 10 ∷ (f ++ 10 ∷ (r ++ 10 ∷ (st ++ 10 ∷ (h ++ 10 ∷ (p ++ 10 ∷ rest)))))))) ≡ s

@@ -26,7 +26,8 @@ split_seam (b ∷ a) more = at (is_feed b) (split_seam a more)
         → cond v ([] ∷ slice_split is_feed (a ++ 10 ∷ more)) (onto_first b (slice_split is_feed (a ++ 10 ∷ more)))
         ≡ cond v ([] ∷ slice_split is_feed a) (onto_first b (slice_split is_feed a)) ++ slice_split is_feed more
     at true later = ap (λ (ps : List (List ℕ)). [] ∷ ps) later
-    at false later = ap (onto_first b) later ∙ onto_both b (slice_split is_feed a) (slice_split is_feed more) (omega (arith, length-slice_split is_feed a))
+    at false later =
+        ap (onto_first b) later ∙ onto_both b (slice_split is_feed a) (slice_split is_feed more) (omega (arith, length-slice_split is_feed a))
 
 parts_seam : (ps qs : List (List ℕ)) → 0 < length qs → lines_of_parts (ps ++ qs) ≡ map strip_carriage_return ps ++ lines_of_parts qs
 parts_seam [] qs some = refl
@@ -35,7 +36,9 @@ parts_seam (p ∷ ps) qs some =
     ∙ ap (λ (ls : List (List ℕ)). strip_carriage_return p ∷ ls) (parts_seam ps qs some)
 
 lines_seam : (a more : List ℕ) → lines (a ++ 10 ∷ more) ≡ map strip_carriage_return (slice_split is_feed a) ++ lines more
-lines_seam a more = ap lines_of_parts (split_seam a more) ∙ parts_seam (slice_split is_feed a) (slice_split is_feed more) (omega (arith, length-slice_split is_feed more))
+lines_seam a more =
+    ap lines_of_parts (split_seam a more)
+    ∙ parts_seam (slice_split is_feed a) (slice_split is_feed more) (omega (arith, length-slice_split is_feed more))
 
 lines_both : (a more : List ℕ) → lines ((a ++ 10 ∷ []) ++ more) ≡ lines (a ++ 10 ∷ []) ++ lines more
 lines_both a more =
@@ -48,7 +51,8 @@ line_before : (l : Line) (more : List ℕ) → lines (canonical l ++ more) ≡ l
 unfolding canonical
 line_before l more = at (ends_in_return (text_of l))
   where
-    at : (v : Bool) → lines ((text_of l ++ cond v (13 ∷ 10 ∷ []) (10 ∷ [])) ++ more) ≡ lines (text_of l ++ cond v (13 ∷ 10 ∷ []) (10 ∷ [])) ++ lines more
+    at : (v : Bool)
+        → lines ((text_of l ++ cond v (13 ∷ 10 ∷ []) (10 ∷ [])) ++ more) ≡ lines (text_of l ++ cond v (13 ∷ 10 ∷ []) (10 ∷ [])) ++ lines more
     at true =
         let same : text_of l ++ 13 ∷ 10 ∷ [] ≡ (text_of l ++ 13 ∷ []) ++ 10 ∷ [] = sym (append_assoc (text_of l) (13 ∷ []) (10 ∷ [])) in
         let P : List ℕ → Type 0 = λ t. lines (t ++ more) ≡ lines t ++ lines more in

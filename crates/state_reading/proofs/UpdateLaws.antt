@@ -112,7 +112,8 @@ all_fit (a ∷ b ∷ c ∷ ls) = at (update_at a b c) refl (all_fit ls)
 less_through : (a b c : List ℕ) → is_less a b ≡ true → is_less b c ≡ true → is_less a c ≡ true
 less_through a b c p q = ap is_lt (nat_list_cmp_total.trans a b c (less_is a b p) (less_is b c q))
 
-all_behind : (a b : List ℕ) (us : List RefUpdate) → is_less a b ≡ true → AllByRecursion (λ v. is_less b v.name ≡ true) us → AllByRecursion (λ v. is_less a v.name ≡ true) us
+all_behind : (a b : List ℕ) (us : List RefUpdate) → is_less a b ≡ true → AllByRecursion (λ v. is_less b v.name ≡ true) us
+    → AllByRecursion (λ v. is_less a v.name ≡ true) us
 all_behind a b [] less all = tt
 all_behind a b (u ∷ us) less all = (less_through a b u.name less all.0, all_behind a b us less all.1)
 
@@ -144,7 +145,8 @@ order_fits us fits = at (are_ordered us) refl
     at true is = record { updates = fits.0; typed = fits.1; ordered = order_is us is }
     at false is = record { updates = tt; typed = tt; ordered = tt }
 
-pub updates_recalled : (bytes : List ℕ) (read updates : List RefUpdate) → updates ≡ read → read ≡ ordered_of (updates_at (lines_of bytes)) → Recalls AreUpdates updates_text bytes updates
+pub updates_recalled : (bytes : List ℕ) (read updates : List RefUpdate) → updates ≡ read → read ≡ ordered_of (updates_at (lines_of bytes))
+    → Recalls AreUpdates updates_text bytes updates
 updates_recalled bytes read updates same is = let e = same ∙ is in record {
   fits = subst AreUpdates (sym e) (order_fits (updates_at (lines_of bytes)) (all_fit (lines_of bytes)));
   again = λ ys fits text.

@@ -74,7 +74,8 @@ name_read (Some name) is =
     let named : is_ref_name name ≡ true = is in
     ap name_at (feed_off name) ∙ ap (λ (b : Bool). cond b (Some name) None) named
 
-pub name_recalled : (bytes : List ℕ) (name : Option (List ℕ)) → name ≡ name_at (without_feed bytes) → Recalls (IfThere IsRefName) head_name_text bytes name
+pub name_recalled : (bytes : List ℕ) (name : Option (List ℕ)) → name ≡ name_at (without_feed bytes)
+    → Recalls (IfThere IsRefName) head_name_text bytes name
 name_recalled bytes name e = record {
   fits = subst (IfThere IsRefName) (sym e) (name_fits (without_feed bytes));
   again = λ y is text. e ∙ ap (λ (t : List ℕ). name_at (without_feed t)) text ∙ name_read y is;
@@ -82,7 +83,8 @@ name_recalled bytes name e = record {
 
 -- ---- lines of a todo
 
-pub lines_recalled : (bytes : List ℕ) (ls : List Line) → SpellsTodo true bytes ls → ((others : List Line) → SpellsTodo true bytes others → others ≡ ls) → All IsSpelled ls → Recalls (All IsSpelled) todo_text bytes ls
+pub lines_recalled : (bytes : List ℕ) (ls : List Line) → SpellsTodo true bytes ls
+    → ((others : List Line) → SpellsTodo true bytes others → others ≡ ls) → All IsSpelled ls → Recalls (All IsSpelled) todo_text bytes ls
 lines_recalled bytes ls spells only fits = record {
   fits = fits;
   again = λ ys is text. sym (only ys (let P : List ℕ → Type 0 = λ t. SpellsTodo true t ys in subst P (sym text) (todo_written ys is)));
@@ -99,7 +101,8 @@ no_lines_recalled bytes none = record {
 script_is : (ident : Ident) (bytes : List ℕ) → IsAuthor ident → bytes ≡ script_text ident → IsAuthorScript ident bytes
 script_is ident bytes is text = record { value = is.value; fits = is.fits; text_is = text }
 
-pub author_recalled : (bytes : List ℕ) (ident : Ident) → IsAuthorScript ident bytes → ((other : Ident) → IsAuthorScript other bytes → other ≡ ident) → Recalls (IfThere IsAuthor) optional_script bytes (Some ident)
+pub author_recalled : (bytes : List ℕ) (ident : Ident) → IsAuthorScript ident bytes → ((other : Ident) → IsAuthorScript other bytes → other ≡ ident)
+    → Recalls (IfThere IsAuthor) optional_script bytes (Some ident)
 author_recalled bytes ident script only = record {
   fits = record { value = script.value; fits = script.fits };
   again = λ y is text. same y is text;

@@ -88,7 +88,8 @@ turned : (a b : List ℕ) → is_path a b ≡ false → is_path b a ≡ false
 turned a b e = let laws = eq_by_cmp_equiv nat_list_cmp_total in laws.symm b a ∙ e
 
 -- a path that no chosen one is
-none_chosen : (test : List ℕ → Bool) (s : List ℕ) (ps : List (List ℕ)) → ((p : List ℕ) → test p ≡ true → is_path p s ≡ false) → is_listed (filter test ps) s ≡ false
+none_chosen : (test : List ℕ → Bool) (s : List ℕ) (ps : List (List ℕ)) → ((p : List ℕ) → test p ≡ true → is_path p s ≡ false)
+    → is_listed (filter test ps) s ≡ false
 none_chosen test s [] other = refl
 none_chosen test s (p ∷ ps) other = at (test p) refl (none_chosen test s ps other)
   where
@@ -101,7 +102,8 @@ all_chosen : (test : List ℕ → Bool) (q : List ℕ) (ps : List (List ℕ)) �
 all_chosen test q [] passes = refl
 all_chosen test q (p ∷ ps) passes = at (test p) refl (is_path q p) refl (all_chosen test q ps passes)
   where
-    at : (b : Bool) → test p ≡ b → (same : Bool) → is_path q p ≡ same → is_listed (filter test ps) q ≡ is_listed ps q → is_listed (cond b (p ∷ filter test ps) (filter test ps)) q ≡ (is_path q p || is_listed ps q)
+    at : (b : Bool) → test p ≡ b → (same : Bool) → is_path q p ≡ same → is_listed (filter test ps) q ≡ is_listed ps q
+        → is_listed (cond b (p ∷ filter test ps) (filter test ps)) q ≡ (is_path q p || is_listed ps q)
     at true is same are later = ap (λ (b : Bool). is_path q p || b) later
     at false is true are later =
         let p-is = same_path q p are in
@@ -143,7 +145,8 @@ stop_in_step verb all found w none n lt =
 
 -- ---- the end
 
-early_or_none : (verb : Verb) (found : List (List ℕ)) (o : Option (List ℕ)) (q : List ℕ) (last here : Bool) → is_listed (last_paths verb) q ≡ last → is_path q (in_step_path verb) ≡ here
+early_or_none : (verb : Verb) (found : List (List ℕ)) (o : Option (List ℕ)) (q : List ℕ) (last here : Bool) → is_listed (last_paths verb) q ≡ last
+    → is_path q (in_step_path verb) ≡ here
     → cond here None (cond last None (cond (is_listed (filter (goes_early verb) found) q) None o)) ≡ cond here None (cond last None (cond (is_listed found q) None o))
 early_or_none verb found o q last true a b = refl
 early_or_none verb found o q true false a b = refl
@@ -151,7 +154,8 @@ early_or_none verb found o q false false a b =
     let early : goes_early verb q ≡ true = rw (a, b) refl in
     ap (λ (v : Bool). cond v None o) (all_chosen (goes_early verb) q found early)
 
-pub end_behind : (verb : Verb) (found : List (List ℕ)) (w : World) (q : List ℕ) → files.get (written w (end_writes verb found)) q ≡ behind_end verb found w q
+pub end_behind : (verb : Verb) (found : List (List ℕ)) (w : World) (q : List ℕ)
+    → files.get (written w (end_writes verb found)) q ≡ behind_end verb found w q
 unfolding left_after
 end_behind verb found w q =
     let s = in_step_path verb in
@@ -179,7 +183,8 @@ end_in_step verb found w n lt =
     before_last w (remove_all early ++ remove_all (last_paths verb)) (Remove s) s front n lt
   where
     not_early : (p : List ℕ) → goes_early verb p ≡ true → is_path p (in_step_path verb) ≡ false
-    not_early p is = not-true (is_path p (in_step_path verb)) (and_parts (not (is_listed (last_paths verb) p)) (not (is_path p (in_step_path verb))) is).1
+    not_early p is =
+        not-true (is_path p (in_step_path verb)) (and_parts (not (is_listed (last_paths verb) p)) (not (is_path p (in_step_path verb))) is).1
 
 pub ruleset stop_laws = (stop_behind, stop_in_step)
 

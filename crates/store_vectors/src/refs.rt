@@ -5,7 +5,7 @@ ghost use Rattle.seq_base.specs.RefNames.{IsRefName};
 ghost use Rattle.std.specs.Prelude.{IfOk};
 
 use crate::faults::{lack_halt, ref_halt};
-use cases::{Answer, Case, CaseFault, log_line_of, put_log_line};
+use cases::{Answer, Case, CaseFault, log_line_of, put_head, put_log_line};
 use ref_store::{
     RefFault, delete, head, list, log, move_branch, move_head, packed_refs, resolve, set_head,
     update,
@@ -35,16 +35,6 @@ fn given_head(case: &mut Case<'_>) -> Result<Head, CaseFault>
     }
     let name = ref_name(case)?;
     Ok(Head::Branch(Bytes::from_vec(Vec::from_slice(case.alloc, name)?)))
-}
-
-fn put_head(out: &mut Answer, head: &Head) -> Result<(), AllocError> {
-    match head {
-        Head::Branch(name) => out.named(b"branch", name.as_slice()),
-        Head::Detached(id) => {
-            out.word(b"detached")?;
-            out.id(*id)
-        }
-    }
 }
 
 fn put_refs(out: &mut Answer, refs: &[(Bytes, Id)]) -> Result<(), AllocError> {

@@ -8,7 +8,8 @@ without_both : (xs ys : List Line) → without_execs (xs ++ ys) ≡ without_exec
 without_both [] ys = refl
 without_both (x ∷ xs) ys = at (without_both xs ys) (is_exec x)
   where
-    at : without_execs (xs ++ ys) ≡ without_execs xs ++ without_execs ys → (t : Bool) → cond (not t) (x ∷ without_execs (xs ++ ys)) (without_execs (xs ++ ys)) ≡ cond (not t) (x ∷ without_execs xs) (without_execs xs) ++ without_execs ys
+    at : without_execs (xs ++ ys) ≡ without_execs xs ++ without_execs ys → (t : Bool)
+        → cond (not t) (x ∷ without_execs (xs ++ ys)) (without_execs (xs ++ ys)) ≡ cond (not t) (x ∷ without_execs xs) (without_execs xs) ++ without_execs ys
     at rest true = rest
     at rest false = ap (λ (ls : List Line). x ∷ ls) rest
 
@@ -20,7 +21,8 @@ any_go : (commands : List (List ℕ)) (wanted : Bool) → without_execs (if_any 
 any_go commands true = execs_go commands
 any_go commands false = refl
 
-behind_stay : (commands : List (List ℕ)) (inside : Bool) (lines : List Line) → without_execs (behind_groups (map Exec commands) inside lines) ≡ without_execs lines
+behind_stay : (commands : List (List ℕ)) (inside : Bool) (lines : List Line)
+    → without_execs (behind_groups (map Exec commands) inside lines) ≡ without_execs lines
 behind_stay commands inside [] = any_go commands inside
 behind_stay commands inside (line ∷ lines) =
     let rest = behind_stay commands (begins line || inside && goes_on line) lines in

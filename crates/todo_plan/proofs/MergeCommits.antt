@@ -43,7 +43,8 @@ pub record Fits (graph : List Node) (found : Option Node) (rest : List (List ℕ
   pub here : parents_fault found ≡ None
   pub later : first_fault graph rest ≡ None
 
-pub fits : (graph : List Node) (found : Option Node) (rest : List (List ℕ)) → or_fault (parents_fault found) (first_fault graph rest) ≡ None → Fits graph found rest
+pub fits : (graph : List Node) (found : Option Node) (rest : List (List ℕ)) → or_fault (parents_fault found) (first_fault graph rest) ≡ None
+    → Fits graph found rest
 fits graph found rest e = at (parents_fault found) refl e
   where
     at : (fault : Option PlanFault) → parents_fault found ≡ fault → or_fault fault (first_fault graph rest) ≡ None → Fits graph found rest
@@ -63,21 +64,32 @@ no_label : (wanted : Bool) (number : ℕ) → revs_of (label_lines wanted number
 no_label true number = refl
 no_label false number = refl
 
-on_parents : (base : List ℕ) (numbers : Numbers) (place : List ℕ) (node : Node) (parents : List (List ℕ)) → cond (length parents == 0) (Some (NewRoot node.id)) (cond (nat_lt 2 (length parents)) (Some (Octopus node.id)) None) ≡ None → revs_of (lines_on base numbers place node parents) ≡ encode_lower node.id ∷ []
+on_parents : (base : List ℕ) (numbers : Numbers) (place : List ℕ) (node : Node) (parents : List (List ℕ))
+    → cond (length parents == 0) (Some (NewRoot node.id)) (cond (nat_lt 2 (length parents)) (Some (Octopus node.id)) None) ≡ None
+    → revs_of (lines_on base numbers place node parents) ≡ encode_lower node.id ∷ []
 on_parents base numbers place node [] e = absurd cc
-on_parents base numbers place node (first ∷ []) e = revs_both (reset_lines base numbers place first) (pick_of node ∷ []) ∙ ap (λ (rs : List (List ℕ)). rs ++ encode_lower node.id ∷ []) (no_reset base numbers place first)
-on_parents base numbers place node (first ∷ second ∷ others) e = revs_both (reset_lines base numbers place first) (merge_of base numbers node second ∷ []) ∙ ap (λ (rs : List (List ℕ)). rs ++ encode_lower node.id ∷ []) (no_reset base numbers place first)
+on_parents base numbers place node (first ∷ []) e =
+    revs_both (reset_lines base numbers place first) (pick_of node ∷ [])
+    ∙ ap (λ (rs : List (List ℕ)). rs ++ encode_lower node.id ∷ []) (no_reset base numbers place first)
+on_parents base numbers place node (first ∷ second ∷ others) e =
+    revs_both (reset_lines base numbers place first) (merge_of base numbers node second ∷ [])
+    ∙ ap (λ (rs : List (List ℕ)). rs ++ encode_lower node.id ∷ []) (no_reset base numbers place first)
 
-of_commit : (graph : List Node) (base : List ℕ) (numbers : Numbers) (place id : List ℕ) → has graph id ≡ true → parents_fault (node_at graph id) ≡ None → revs_of (commit_lines base numbers place (node_at graph id)) ≡ encode_lower id ∷ []
+of_commit : (graph : List Node) (base : List ℕ) (numbers : Numbers) (place id : List ℕ) → has graph id ≡ true
+    → parents_fault (node_at graph id) ≡ None → revs_of (commit_lines base numbers place (node_at graph id)) ≡ encode_lower id ∷ []
 of_commit graph base numbers place id there fit = at (node_at graph id) refl (has_node graph id ∙ there) fit
   where
-    at : (found : Option Node) → node_at graph id ≡ found → is_some found ≡ true → parents_fault found ≡ None → revs_of (commit_lines base numbers place found) ≡ encode_lower id ∷ []
+    at : (found : Option Node) → node_at graph id ≡ found → is_some found ≡ true → parents_fault found ≡ None
+        → revs_of (commit_lines base numbers place found) ≡ encode_lower id ∷ []
     at None is some fit = absurd cc
-    at (Some node) is some fit = on_parents base numbers place node node.parents fit ∙ ap (λ (i : List ℕ). encode_lower i ∷ []) (found_id graph id node is)
+    at (Some node) is some fit =
+        on_parents base numbers place node node.parents fit ∙ ap (λ (i : List ℕ). encode_lower i ∷ []) (found_id graph id node is)
 
 -- ---- the range
 
-range_about : (graph : List Node) (base : List ℕ) (ids : List (List ℕ)) (numbers : Numbers) (count : ℕ) (place : List ℕ) (range : List (List ℕ)) → first_missing graph range ≡ None → first_fault graph range ≡ None → revs_of (range_lines graph base ids numbers count place range) ≡ map encode_lower range
+range_about : (graph : List Node) (base : List ℕ) (ids : List (List ℕ)) (numbers : Numbers) (count : ℕ) (place : List ℕ) (range : List (List ℕ))
+    → first_missing graph range ≡ None → first_fault graph range ≡ None
+    → revs_of (range_lines graph base ids numbers count place range) ≡ map encode_lower range
 range_about graph base ids numbers count place [] there fit = refl
 range_about graph base ids numbers count place (id ∷ rest) there fit =
     let g = goes graph id rest there in
@@ -92,6 +104,7 @@ range_about graph base ids numbers count place (id ∷ rest) there fit =
     ∙ ap (λ (rs : List (List ℕ)). rs ++ revs_of more) (no_label wanted (count + 1))
     ∙ range_about graph base ids (numbered wanted (count + 1) id numbers) (counted wanted count) id rest g.later f.later)
 
-pub merges_about : (graph : List Node) (base : List ℕ) (range : List (List ℕ)) → first_missing graph range ≡ None → first_fault graph range ≡ None → revs_of (merges_todo graph base range) ≡ map encode_lower range
+pub merges_about : (graph : List Node) (base : List ℕ) (range : List (List ℕ)) → first_missing graph range ≡ None → first_fault graph range ≡ None
+    → revs_of (merges_todo graph base range) ≡ map encode_lower range
 merges_about graph base [] there fit = refl
 merges_about graph base (id ∷ rest) there fit = range_about graph base (named graph base (id ∷ rest)) (λ other. None) 0 base (id ∷ rest) there fit

@@ -32,15 +32,18 @@ first_named : (graph : List Node) (range : List (List ℕ)) (fault : PlanFault) 
 first_named graph [] fault e = absurd cc
 first_named graph (id ∷ range) fault e = at (first_named graph range fault) (node_at graph id) e
   where
-    here : (first_fault graph range ≡ Some fault → IsNamed fault) → (node : Node) (found : Option PlanFault) → parents_fault (Some node) ≡ found → or_fault found (first_fault graph range) ≡ Some fault → IsNamed fault
+    here : (first_fault graph range ≡ Some fault → IsNamed fault) → (node : Node) (found : Option PlanFault) → parents_fault (Some node) ≡ found
+        → or_fault found (first_fault graph range) ≡ Some fault → IsNamed fault
     here rest node None is e = rest e
     here rest node (Some blamed) is e = let same : blamed ≡ fault = cc in subst IsNamed same (parents_named node blamed is)
 
-    at : (first_fault graph range ≡ Some fault → IsNamed fault) → (found : Option Node) → or_fault (parents_fault found) (first_fault graph range) ≡ Some fault → IsNamed fault
+    at : (first_fault graph range ≡ Some fault → IsNamed fault) → (found : Option Node)
+        → or_fault (parents_fault found) (first_fault graph range) ≡ Some fault → IsNamed fault
     at rest None e = rest e
     at rest (Some node) e = here rest node (parents_fault (Some node)) refl e
 
-pub blamed : (graph : List Node) (range : List (List ℕ)) (fault : PlanFault) → first_fault graph range ≡ Some fault → PlanFails (first_fault graph range) fault
+pub blamed : (graph : List Node) (range : List (List ℕ)) (fault : PlanFault) → first_fault graph range ≡ Some fault
+    → PlanFails (first_fault graph range) fault
 blamed graph range (Octopus id) e = e
 blamed graph range (NewRoot id) e = e
 blamed graph range Memory e = absurd (first_named graph range Memory e)
@@ -48,8 +51,10 @@ blamed graph range Memory e = absurd (first_named graph range Memory e)
 -- ---- sets and numbers
 
 -- an id that is put into a set is among those that are left no more
-pub put_among : (x : List ℕ) (rest : List (List ℕ)) (was is : Bool) (other : List ℕ) → is ≡ cond (is_at (slice_cmp nat_cmp x) other) true was → (is_among rest other || is) ≡ (is_among (x ∷ rest) other || was)
-put_among x rest was is other e = ap (λ b. is_among rest other || b) (e ∙ ap (λ b. cond b true was) (is_eq-slice_cmp x other)) ∙ at (is_among rest other) (bytes_eq x other)
+pub put_among : (x : List ℕ) (rest : List (List ℕ)) (was is : Bool) (other : List ℕ) → is ≡ cond (is_at (slice_cmp nat_cmp x) other) true was
+    → (is_among rest other || is) ≡ (is_among (x ∷ rest) other || was)
+put_among x rest was is other e =
+    ap (λ b. is_among rest other || b) (e ∙ ap (λ b. cond b true was) (is_eq-slice_cmp x other)) ∙ at (is_among rest other) (bytes_eq x other)
   where
     at : (r b : Bool) → (r || cond b true was) ≡ ((b || r) || was)
     at true true = refl
@@ -57,8 +62,10 @@ put_among x rest was is other e = ap (λ b. is_among rest other || b) (e ∙ ap 
     at false true = refl
     at false false = refl
 
-pub put_number : (id : List ℕ) (number : ℕ) (wanted : Bool) (was is : Option ℕ) (other : List ℕ) → wanted ≡ true → is ≡ cond (is_at (slice_cmp nat_cmp id) other) (Some number) was → is ≡ cond (wanted && bytes_eq id other) (Some number) was
-put_number id number wanted was is other w e = e ∙ ap (λ b. cond b (Some number) was) (is_eq-slice_cmp id other) ∙ ap (λ b. cond (b && bytes_eq id other) (Some number) was) (sym w)
+pub put_number : (id : List ℕ) (number : ℕ) (wanted : Bool) (was is : Option ℕ) (other : List ℕ) → wanted ≡ true
+    → is ≡ cond (is_at (slice_cmp nat_cmp id) other) (Some number) was → is ≡ cond (wanted && bytes_eq id other) (Some number) was
+put_number id number wanted was is other w e =
+    e ∙ ap (λ b. cond b (Some number) was) (is_eq-slice_cmp id other) ∙ ap (λ b. cond (b && bytes_eq id other) (Some number) was) (sym w)
 
 -- ---- lines
 

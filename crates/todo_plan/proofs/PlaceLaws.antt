@@ -29,22 +29,27 @@ differ a b ne = at (bytes_eq a b) refl
     at false e = refl
 
 -- hex digits begin with neither `o` nor `r`
-hex_head : (c : ℕ) → not (0 == c) ≡ true → list_all (λ x. not (x == c)) lower_digits ≡ true → (id : List ℕ) → not (get_or (encode_lower id) 0 0 == c) ≡ true
+hex_head : (c : ℕ) → not (0 == c) ≡ true → list_all (λ x. not (x == c)) lower_digits ≡ true → (id : List ℕ)
+    → not (get_or (encode_lower id) 0 0 == c) ≡ true
 unfolding encode_with
 hex_head c none all [] = none
 hex_head c none all (b ∷ rest) = digit (λ x. not (x == c)) none lower_digits (b / 16) all
 
 no_onto : (id : List ℕ) → bytes_eq (codes "onto") (encode_lower id) ≡ false
-no_onto id = differ (codes "onto") (encode_lower id) (λ e. let h = hex_head 111 refl refl id in let same : not (get_or (encode_lower id) 0 0 == 111) ≡ false = ap (λ (w : List ℕ). not (get_or w 0 0 == 111)) (sym e) in cc)
+no_onto id =
+    differ (codes "onto") (encode_lower id) (λ e. let h = hex_head 111 refl refl id in let same : not (get_or (encode_lower id) 0 0 == 111) ≡ false = ap (λ (w : List ℕ). not (get_or w 0 0 == 111)) (sym e) in cc)
 
 no_label : (n : ℕ) (id : List ℕ) → bytes_eq (label_name n) (encode_lower id) ≡ false
-no_label n id = differ (label_name n) (encode_lower id) (λ e. let h = hex_head 114 refl refl id in let same : not (get_or (encode_lower id) 0 0 == 114) ≡ false = ap (λ (w : List ℕ). not (get_or w 0 0 == 114)) (sym e) in cc)
+no_label n id =
+    differ (label_name n) (encode_lower id) (λ e. let h = hex_head 114 refl refl id in let same : not (get_or (encode_lower id) 0 0 == 114) ≡ false = ap (λ (w : List ℕ). not (get_or w 0 0 == 114)) (sym e) in cc)
 
 label_no_onto : (n : ℕ) → bytes_eq (label_name n) (codes "onto") ≡ false
-label_no_onto n = differ (label_name n) (codes "onto") (λ e. let same : (get_or (label_name n) 0 0 == 114) ≡ (get_or (codes "onto") 0 0 == 114) = ap (λ (w : List ℕ). get_or w 0 0 == 114) e in let no : true ≡ false = same in cc)
+label_no_onto n =
+    differ (label_name n) (codes "onto") (λ e. let same : (get_or (label_name n) 0 0 == 114) ≡ (get_or (codes "onto") 0 0 == 114) = ap (λ (w : List ℕ). get_or w 0 0 == 114) e in let no : true ≡ false = same in cc)
 
 labels_differ : (m n : ℕ) → n < m → m < 2 ^ 64 → bytes_eq (label_name m) (label_name n) ≡ false
-labels_differ m n l b = differ (label_name m) (label_name n) (λ e. let same = decimal_injective m n b (omega arith) (ap (λ (w : List ℕ). drop 3 w) e) in omega (arith, same))
+labels_differ m n l b =
+    differ (label_name m) (label_name n) (λ e. let same = decimal_injective m n b (omega arith) (ap (λ (w : List ℕ). drop 3 w) e) in omega (arith, same))
 
 -- ---- names that agree with labels
 
@@ -53,7 +58,8 @@ record Agrees (graph : List Node) (base : List ℕ) (names : Names) (numbers : N
   onto : names (codes "onto") ≡ base
   labels : (id : List ℕ) (n : ℕ) → numbers id ≡ Some n → (names (label_name n) ≡ id) × (n ≤ count)
 
-resolved : (graph : List Node) (base : List ℕ) (names : Names) (numbers : Numbers) (count : ℕ) → Agrees graph base names numbers count → (id : List ℕ) → names (encode_lower id) ≡ id → names (name_of base numbers id) ≡ id
+resolved : (graph : List Node) (base : List ℕ) (names : Names) (numbers : Numbers) (count : ℕ) → Agrees graph base names numbers count → (id : List ℕ)
+    → names (encode_lower id) ≡ id → names (name_of base numbers id) ≡ id
 resolved graph base names numbers count a id hex = at (numbers id) refl
   where
     none : (t : Bool) → bytes_eq id base ≡ t → names (cond t (codes "onto") (encode_lower id)) ≡ id
@@ -64,13 +70,17 @@ resolved graph base names numbers count a id hex = at (numbers id) refl
     at (Some n) e = (a.labels id n e).0
     at None e = none (bytes_eq id base) refl
 
-other_name : (name id other : List ℕ) (names : Names) (is : List ℕ) → bytes_eq name other ≡ false → names other ≡ is → with_name name id names other ≡ is
+other_name : (name id other : List ℕ) (names : Names) (is : List ℕ) → bytes_eq name other ≡ false → names other ≡ is
+    → with_name name id names other ≡ is
 other_name name id other names is e h = ap (λ (t : Bool). cond t id (names other)) e ∙ h
 
-labelled : (graph : List Node) (base : List ℕ) (names : Names) (numbers : Numbers) (count : ℕ) (id : List ℕ) → count + 1 < 2 ^ 64 → Agrees graph base names numbers count → Agrees graph base (with_name (label_name (count + 1)) id names) (numbered true (count + 1) id numbers) (count + 1)
+labelled : (graph : List Node) (base : List ℕ) (names : Names) (numbers : Numbers) (count : ℕ) (id : List ℕ) → count + 1 < 2 ^ 64
+    → Agrees graph base names numbers count
+    → Agrees graph base (with_name (label_name (count + 1)) id names) (numbered true (count + 1) id numbers) (count + 1)
 labelled graph base names numbers count id small a = record {
   reads = record {
-    commits = λ node c. other_name (label_name (count + 1)) id (encode_lower node.id) names node.id (no_label (count + 1) node.id) (a.reads.commits node c);
+    commits =
+        λ node c. other_name (label_name (count + 1)) id (encode_lower node.id) names node.id (no_label (count + 1) node.id) (a.reads.commits node c);
     parents = λ node p c d. other_name (label_name (count + 1)) id (encode_lower p) names p (no_label (count + 1) p) (a.reads.parents node p c d);
   };
   onto = other_name (label_name (count + 1)) id (codes "onto") names base (label_no_onto (count + 1)) a.onto;
@@ -80,7 +90,8 @@ labelled graph base names numbers count id small a = record {
     self : (name : List ℕ) → bytes_eq name name ≡ true
     self name = (bytes_eq-Decides name name).1 refl
 
-    at : (other : List ℕ) (n : ℕ) (t : Bool) → bytes_eq id other ≡ t → cond t (Some (count + 1)) (numbers other) ≡ Some n → (with_name (label_name (count + 1)) id names (label_name n) ≡ other) × (n ≤ count + 1)
+    at : (other : List ℕ) (n : ℕ) (t : Bool) → bytes_eq id other ≡ t → cond t (Some (count + 1)) (numbers other) ≡ Some n
+        → (with_name (label_name (count + 1)) id names (label_name n) ≡ other) × (n ≤ count + 1)
     at other n true e is =
         let same : count + 1 ≡ n = cc in
         (subst (λ (k : ℕ). with_name (label_name (count + 1)) id names (label_name k) ≡ other) same (ap (λ (t : Bool). cond t id (names (label_name (count + 1)))) (self (label_name (count + 1))) ∙ (bytes_eq-Decides id other).0 e), omega (arith, same))
@@ -91,7 +102,9 @@ labelled graph base names numbers count id small a = record {
 
 -- ---- lines
 
-reset_to : (graph : List Node) (base : List ℕ) (names : Names) (numbers : Numbers) (place first : List ℕ) (lines : List Line) → names (name_of base numbers first) ≡ first → StandsOn graph names first lines → StandsOn graph names place (reset_lines base numbers place first ++ lines)
+reset_to : (graph : List Node) (base : List ℕ) (names : Names) (numbers : Numbers) (place first : List ℕ) (lines : List Line)
+    → names (name_of base numbers first) ≡ first → StandsOn graph names first lines
+    → StandsOn graph names place (reset_lines base numbers place first ++ lines)
 reset_to graph base names numbers place first lines named h = at (bytes_eq first place) refl
   where
     at : (t : Bool) → bytes_eq first place ≡ t → StandsOn graph names place (cond (not t) (Reset (name_of base numbers first) [] ∷ []) [] ++ lines)
@@ -102,7 +115,8 @@ among : (graph : List Node) (id : List ℕ) (node : Node) → node_at graph id �
 among [] id node e = absurd cc
 among (other ∷ graph) id node e = at (among graph id node) (bytes_eq other.id id) e
   where
-    at : (node_at graph id ≡ Some node → Contains graph node) → (t : Bool) → cond t (Some other) (node_at graph id) ≡ Some node → Contains (other ∷ graph) node
+    at : (node_at graph id ≡ Some node → Contains graph node) → (t : Bool) → cond t (Some other) (node_at graph id) ≡ Some node
+        → Contains (other ∷ graph) node
     at rest true e = let is : other ≡ node = cc in (0, omega arith, is)
     at rest false e = let c = rest e in let l : c.0 < length graph = c.1 in (suc c.0, omega arith, c.2)
 
@@ -111,7 +125,8 @@ record Commit (graph : List Node) (node : Node) : Type 0 where
   inside : Contains graph node
   found : node_at graph node.id ≡ Some node
 
-on_commit : (graph : List Node) (base : List ℕ) (names : Names) (numbers : Numbers) (count : ℕ) (place : List ℕ) (node : Node) (lines : List Line) → Agrees graph base names numbers count → Commit graph node
+on_commit : (graph : List Node) (base : List ℕ) (names : Names) (numbers : Numbers) (count : ℕ) (place : List ℕ) (node : Node) (lines : List Line)
+    → Agrees graph base names numbers count → Commit graph node
     → (parents : List (List ℕ)) → node.parents ≡ parents → cond (length parents == 0) (Some (NewRoot node.id)) (cond (nat_lt 2 (length parents)) (Some (Octopus node.id)) None) ≡ None
     → StandsOn graph names node.id lines → StandsOn graph names place (lines_on base numbers place node parents ++ lines)
 on_commit graph base names numbers count place node lines a c [] is fit h = absurd cc
@@ -137,7 +152,8 @@ on_commit graph base names numbers count place node lines a c (first ∷ second 
     blamed false true m e = absurd cc
     blamed false false m e = absurd cc
 
-range_stands : (graph : List Node) (base : List ℕ) (ids : List (List ℕ)) (names : Names) (numbers : Numbers) (count : ℕ) (place : List ℕ) (range : List (List ℕ)) → Agrees graph base names numbers count → count + length range < 2 ^ 64 → first_missing graph range ≡ None → first_fault graph range ≡ None
+range_stands : (graph : List Node) (base : List ℕ) (ids : List (List ℕ)) (names : Names) (numbers : Numbers) (count : ℕ) (place : List ℕ) (range : List (List ℕ))
+    → Agrees graph base names numbers count → count + length range < 2 ^ 64 → first_missing graph range ≡ None → first_fault graph range ≡ None
     → StandsOn graph names place (range_lines graph base ids numbers count place range)
 range_stands graph base ids names numbers count place [] a small there fit = tt
 range_stands graph base ids names numbers count place (id ∷ rest) a small there fit =
@@ -147,7 +163,8 @@ range_stands graph base ids names numbers count place (id ∷ rest) a small ther
   where
     behind : ((names : Names) (numbers : Numbers) (count : ℕ) → Agrees graph base names numbers count → count + length rest < 2 ^ 64 → StandsOn graph names id (range_lines graph base ids numbers count id rest))
         → (wanted : Bool) → StandsOn graph names id (label_lines wanted (count + 1) ++ range_lines graph base ids (numbered wanted (count + 1) id numbers) (counted wanted count) id rest)
-    behind later true = later (with_name (label_name (count + 1)) id names) (numbered true (count + 1) id numbers) (count + 1) (labelled graph base names numbers count id (omega arith) a) (omega arith)
+    behind later true =
+        later (with_name (label_name (count + 1)) id names) (numbered true (count + 1) id numbers) (count + 1) (labelled graph base names numbers count id (omega arith) a) (omega arith)
     behind later false = later names numbers count a (omega arith)
 
     at : ((names : Names) (numbers : Numbers) (count : ℕ) → Agrees graph base names numbers count → count + length rest < 2 ^ 64 → StandsOn graph names id (range_lines graph base ids numbers count id rest))
@@ -160,7 +177,8 @@ range_stands graph base ids names numbers count place (id ∷ rest) a small ther
         on_commit graph base names numbers count place node lines a (record { inside = among graph id node is; found = ap (node_at graph) same ∙ is }) node.parents refl fit
         (subst (λ (p : List ℕ). StandsOn graph names p lines) (sym same) (behind later (is_among ids id)))
 
-pub merges_stand : (graph : List Node) (base : List ℕ) (range : List (List ℕ)) (names : Names) → ReadsHex graph names → length range < 2 ^ 64 → first_missing graph range ≡ None → first_fault graph range ≡ None → StandsOn graph names base (merges_todo graph base range)
+pub merges_stand : (graph : List Node) (base : List ℕ) (range : List (List ℕ)) (names : Names) → ReadsHex graph names → length range < 2 ^ 64
+    → first_missing graph range ≡ None → first_fault graph range ≡ None → StandsOn graph names base (merges_todo graph base range)
 merges_stand graph base [] names reads small there fit = tt
 merges_stand graph base (id ∷ rest) names reads small there fit =
     range_stands graph base (named graph base (id ∷ rest)) (with_name (codes "onto") base names) (λ other. None) 0 base (id ∷ rest)

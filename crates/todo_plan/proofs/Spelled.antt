@@ -31,7 +31,8 @@ module _ (p : ℕ → Bool) (fits : p 0 ≡ true) where
   digits t (b ∷ rest) h = and_from _ _ (digit t (b / 16) h) (and_from _ _ (digit t (b % 16) h) (digits t rest h))
 
 pub hex_word : (id : List ℕ) → IsId id → IsGoodWord (encode_lower id)
-hex_word id h = let forty : length (encode_lower id) ≡ 40 = let long = length-encode_with lower_digits id in omega (arith, long, h.1) in record { word = (ap (λ n. n == 0) forty, digits (λ b. not (is_blank b)) refl lower_digits id refl); feed = digits (λ b. not (b == 10)) refl lower_digits id refl }
+hex_word id h =
+    let forty : length (encode_lower id) ≡ 40 = let long = length-encode_with lower_digits id in omega (arith, long, h.1) in record { word = (ap (λ n. n == 0) forty, digits (λ b. not (is_blank b)) refl lower_digits id refl); feed = digits (λ b. not (b == 10)) refl lower_digits id refl }
 
 -- ---- notes
 
@@ -93,7 +94,8 @@ ends (x ∷ xs) =
     only true w holds e = cc
     only false w holds e = refl
 
-    last : (left : List ℕ) → without_end is_edge xs ≡ left → list_all is_edge (x ∷ xs) ≡ false → ends_blank left ≡ false → ends_blank (x ∷ left) ≡ false
+    last : (left : List ℕ) → without_end is_edge xs ≡ left → list_all is_edge (x ∷ xs) ≡ false → ends_blank left ≡ false
+        → ends_blank (x ∷ left) ≡ false
     last [] e n r = no_blank x (only (is_edge x) (list_all is_edge xs) (left_none xs e) n)
     last (c ∷ cs) e n r = r
 
@@ -101,7 +103,8 @@ pub subject_note : (subject : List ℕ) → HasNoFeed subject → IsGoodNote (no
 subject_note subject h = record {
   begins = begins subject;
   ends = ends (from (λ b. not (is_edge b)) subject);
-  feed = all_without_end is_edge (λ b. not (b == 10)) (from (λ b. not (is_edge b)) subject) (all_from (λ b. not (is_edge b)) (λ b. not (b == 10)) subject h);
+  feed =
+      all_without_end is_edge (λ b. not (b == 10)) (from (λ b. not (is_edge b)) subject) (all_from (λ b. not (is_edge b)) (λ b. not (b == 10)) subject h);
 }
 
 pub pick_spells : (node : Node) → IsId node.id → HasNoFeed node.subject → IsSpelled (pick_of node)

@@ -45,5 +45,6 @@ StandsOn graph names place (Break ∷ lines) = StandsOn graph names place lines
 StandsOn graph names place (Noop ∷ lines) = StandsOn graph names place lines
 StandsOn graph names place (Label name ∷ lines) = StandsOn graph (with_name name place names) place lines
 StandsOn graph names place (Reset name note ∷ lines) = StandsOn graph names (names name) lines
-StandsOn graph names place (Merge how head note ∷ lines) = (parents_of graph (names (kept how)) ≡ place ∷ names head ∷ []) × StandsOn graph names (names (kept how)) lines
+StandsOn graph names place (Merge how head note ∷ lines) =
+    (parents_of graph (names (kept how)) ≡ place ∷ names head ∷ []) × StandsOn graph names (names (kept how)) lines
 StandsOn graph names place (UpdateRef name ∷ lines) = StandsOn graph names place lines

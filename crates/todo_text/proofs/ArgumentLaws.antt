@@ -63,9 +63,11 @@ simple_fit kind.FixupEdit rev h = refl
 simple_fit kind.Drop rev h = refl
 simple_fit kind.Revert rev h = refl
 
-rev_past : (k : PickKind) (text : List ℕ) (l : Line) → rev_line k text ≡ Ok l → (lacks_word text ≡ false) × (line.Pick k (word text) (note_of (behind text)) ≡ l)
+rev_past : (k : PickKind) (text : List ℕ) (l : Line) → rev_line k text ≡ Ok l
+    → (lacks_word text ≡ false) × (line.Pick k (word text) (note_of (behind text)) ≡ l)
 unfolding rev_line
-rev_past k text l h = let p = past (lacks_word text) fault.Missing (Ok (line.Pick k (word text) (note_of (behind text)))) l h in (p.0, ok_same _ _ p.1)
+rev_past k text l h =
+    let p = past (lacks_word text) fault.Missing (Ok (line.Pick k (word text) (note_of (behind text)))) l h in (p.0, ok_same _ _ p.1)
 
 pick_told : (k : PickKind) (text : List ℕ) (l : Line) → is_simple k ≡ true → rev_line k text ≡ Ok l → Told (Pick k) text l
 pick_told k text l simple h =
@@ -276,7 +278,8 @@ merge_told text l h =
       word_same = refl;
       letter_same = refl;
       rest = behind (behind (behind text));
-      words = (behind text, begins_as text (codes "-C") keep refl, (behind (behind text), begins_on (behind text) p.0, (behind (behind (behind text)), q.begins, refl)));
+      words =
+          (behind text, begins_as text (codes "-C") keep refl, (behind (behind text), begins_on (behind text) p.0, (behind (behind (behind text)), q.begins, refl)));
       ends = q.is_note;
       fit = ap not q.no_hash;
     }))
@@ -290,7 +293,8 @@ merge_told text l h =
       word_same = refl;
       letter_same = refl;
       rest = behind (behind (behind text));
-      words = (behind text, begins_as text (codes "-c") reword refl, (behind (behind text), begins_on (behind text) p.0, (behind (behind (behind text)), q.begins, refl)));
+      words =
+          (behind text, begins_as text (codes "-c") reword refl, (behind (behind text), begins_on (behind text) p.0, (behind (behind (behind text)), q.begins, refl)));
       ends = q.is_note;
       fit = ap not q.no_hash;
     }))

@@ -69,7 +69,8 @@ pub record Named (w : List ℕ) (command : Command) : Type 0 where
 by_name : (whole letter w : List ℕ) → is_named whole letter w ≡ true → (w ≡ whole) ⊎ (w ≡ letter)
 by_name whole letter w h = ⊎_elim (λ e. inl (same w whole e)) (λ e. inr (same w letter e)) (or_cases _ _ h)
 
-tested : {C : Type 0} (P : C → Type 0) (v : Bool) (a : C) (rest : Option C) (c : C) → (v ≡ true → P a) → (rest ≡ Some c → P c) → cond v (Some a) rest ≡ Some c → P c
+tested : {C : Type 0} (P : C → Type 0) (v : Bool) (a : C) (rest : Option C) (c : C) → (v ≡ true → P a) → (rest ≡ Some c → P c)
+    → cond v (Some a) rest ≡ Some c → P c
 tested P true a rest c here later e = let one : a ≡ c = cc in subst P one (here refl)
 tested P false a rest c here later e = later e
 

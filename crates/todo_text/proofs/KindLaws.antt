@@ -22,11 +22,13 @@ use Rattle.todo_text.specs.ReadLine.{◌>>=◌, rev_line, fixup_line, exec_line,
 use Rattle.todo_text.specs.ReadTodo.{placed, line_in}
 
 module _ (earlier : Bool) where
-  test_kind : (v : Bool) (k : TodoKind) (r : Result Line TodoKind) (o : Option TodoKind) → o ≡ result_err (placed earlier r) → cond v (Some k) o ≡ result_err (placed earlier (cond v (Err k) r))
+  test_kind : (v : Bool) (k : TodoKind) (r : Result Line TodoKind) (o : Option TodoKind) → o ≡ result_err (placed earlier r)
+      → cond v (Some k) o ≡ result_err (placed earlier (cond v (Err k) r))
   test_kind true k r o h = refl
   test_kind false k r o h = h
 
-  late : (v : Bool) (l : Line) → cond (v && not earlier) (Some fault.NoEarlier) None ≡ result_err (cond (not (earlier || not v)) (Err fault.NoEarlier) (Ok l))
+  late : (v : Bool) (l : Line)
+      → cond (v && not earlier) (Some fault.NoEarlier) None ≡ result_err (cond (not (earlier || not v)) (Err fault.NoEarlier) (Ok l))
   late v l =
       elim v as (λ v. cond (v && not earlier) (Some fault.NoEarlier) None ≡ result_err (cond (not (earlier || not v)) (Err fault.NoEarlier) (Ok l))) [
         | true ↦ elim earlier as (λ e. cond (true && not e) (Some fault.NoEarlier) None ≡ result_err (cond (not (e || not true)) (Err fault.NoEarlier) (Ok l))) [ true ↦ refl | false ↦ refl ]
@@ -39,7 +41,8 @@ module _ (earlier : Bool) where
   good_kind : (l : Line) → squashes l ≡ false → None ≡ result_err (placed earlier (Ok l))
   good_kind l e = last_kind l false e
 
-  tested-bind : {X : Type 0} (v : Bool) (k : TodoKind) (r : Result X TodoKind) (f : X → Result Line TodoKind) → (cond v (Err k) r >>= f) ≡ cond v (Err k) (r >>= f)
+  tested-bind : {X : Type 0} (v : Bool) (k : TodoKind) (r : Result X TodoKind) (f : X → Result Line TodoKind)
+      → (cond v (Err k) r >>= f) ≡ cond v (Err k) (r >>= f)
   tested-bind true k r f = refl
   tested-bind false k r f = refl
 
@@ -71,7 +74,8 @@ module _ (earlier : Bool) where
   unfolding exec_line
   exec_kind text = test_kind (lacks_word text) fault.Missing _ _ (good_kind (line.Exec (from_word text)) refl)
 
-  lone_kind : (l : Line) (text : List ℕ) → squashes l ≡ false → cond (not (lacks_word text)) (Some fault.Extra) None ≡ result_err (placed earlier (lone_line l text))
+  lone_kind : (l : Line) (text : List ℕ) → squashes l ≡ false
+      → cond (not (lacks_word text)) (Some fault.Extra) None ≡ result_err (placed earlier (lone_line l text))
   unfolding lone_line
   lone_kind l text e = test_kind (not (lacks_word text)) fault.Extra _ _ (good_kind l e)
 

@@ -24,7 +24,8 @@ has_command text c h =
     (λ some. some)
     (cases_Bool (lacks_word text))
 
-sound_with : (text : List ℕ) (l : Line) → HasNoFeed text → (o : Option Command) → command_of (word text) ≡ o → with_command o (behind text) ≡ Ok l → Spells l text
+sound_with : (text : List ℕ) (l : Line) → HasNoFeed text → (o : Option Command) → command_of (word text) ≡ o → with_command o (behind text) ≡ Ok l
+    → Spells l text
 sound_with text l feed None e h = let no_way : ⊥ = cc in absurd no_way
 sound_with text l feed (Some c) e h =
     let named = command_named (word text) c e in

@@ -12,7 +12,8 @@ use Rattle.memchr.specs.Find.{IsFirstByte, is_byte}
 abbrev pub is_feed : ℕ → Bool
 is_feed b = b == 10
 
-pub first_of_parts : (part : List ℕ) (parts : List (List ℕ)) → 0 < length parts → lines_of_parts (part ∷ parts) ≡ strip_carriage_return part ∷ lines_of_parts parts
+pub first_of_parts : (part : List ℕ) (parts : List (List ℕ)) → 0 < length parts
+    → lines_of_parts (part ∷ parts) ≡ strip_carriage_return part ∷ lines_of_parts parts
 first_of_parts part [] some = absurd (omega arith)
 first_of_parts part (p ∷ ps) some = refl
 
@@ -20,7 +21,8 @@ fails : (v : Bool) → (v ≡ true → ⊥) → v ≡ false
 fails v never = ⊎_elim (λ yes. absurd (never yes)) (λ e. e) (cases_Bool v)
 
 -- a line feed is found
-pub lines_at : (text : List ℕ) (end : ℕ) → IsFirstByte (is_byte 10) text (Some end) → lines text ≡ strip_carriage_return (take end text) ∷ lines (drop (end + 1) text)
+pub lines_at : (text : List ℕ) (end : ℕ) → IsFirstByte (is_byte 10) text (Some end)
+    → lines text ≡ strip_carriage_return (take end text) ∷ lines (drop (end + 1) text)
 lines_at text end h =
     let within : end < length text = h.0.high in
     let cut : text ≡ take end text ++ get_or text end 0 ∷ drop (end + 1) text =

@@ -104,14 +104,17 @@ leads_feed : (rest text : List ℕ) → HasNoFeed rest → Leads rest text → H
 leads_feed rest text feed h = let p = parts_feed h.front text (subst HasNoFeed h.whole feed) in p.1
 
 ending_written : (l : Line) (rest : List ℕ) → HasNoFeed rest → Ends l rest → Written l
-ending_written (Pick k rev note) rest feed h = let kept = note_kept rest note feed h in record { ends = note_written note kept; feed = note_feed note kept }
+ending_written (Pick k rev note) rest feed h =
+    let kept = note_kept rest note feed h in record { ends = note_written note kept; feed = note_feed note kept }
 ending_written (Exec command) rest feed h =
     record { ends = (h.0, record { front = 32 ∷ []; blanks = refl; begins = h.1.begins; whole = refl }); feed = leads_feed rest command feed h.1 }
 ending_written Break rest feed h = record { ends = refl; feed = refl }
 ending_written Noop rest feed h = record { ends = refl; feed = refl }
 ending_written (Label name) rest feed h = record { ends = refl; feed = refl }
-ending_written (Reset name note) rest feed h = let kept = note_kept rest note feed h in record { ends = note_written note kept; feed = note_feed note kept }
-ending_written (Merge how head note) rest feed h = let kept = merge_kept rest note feed h in record { ends = merge_written note kept; feed = note_feed note kept }
+ending_written (Reset name note) rest feed h =
+    let kept = note_kept rest note feed h in record { ends = note_written note kept; feed = note_feed note kept }
+ending_written (Merge how head note) rest feed h =
+    let kept = merge_kept rest note feed h in record { ends = merge_written note kept; feed = note_feed note kept }
 ending_written (UpdateRef name) rest feed h = record { ends = refl; feed = refl }
 
 abbrev Apart : List ℕ → Type 0
@@ -173,7 +176,8 @@ unfolding text_of
 written_spells l good written fit =
     let word = command_good l in
     record {
-      one_line = both_feed (command_word l) (spaced (arguments l) ++ ending l) word.1 (both_feed (spaced (arguments l)) (ending l) (words_feed (arguments l) good) written.feed);
+      one_line =
+          both_feed (command_word l) (spaced (arguments l) ++ ending l) word.1 (both_feed (spaced (arguments l)) (ending l) (words_feed (arguments l) good) written.feed);
       command = command_word l;
       named = inl refl;
       rest = ending l;
@@ -296,7 +300,8 @@ respelled (text ∷ texts) earlier ls h =
     (cases_Bool (is_comment text))
 
 -- a todo that is written again
-pub todo_respelled : (bytes : List ℕ) (earlier : Bool) (ls : List Line) → SpellAll earlier (lines bytes) ls → SpellAll earlier (lines (todo_text ls)) ls
+pub todo_respelled : (bytes : List ℕ) (earlier : Bool) (ls : List Line) → SpellAll earlier (lines bytes) ls
+    → SpellAll earlier (lines (todo_text ls)) ls
 todo_respelled bytes earlier ls h = respelled (lines bytes) earlier ls h
 
 -- what is written piece by piece

@@ -117,7 +117,8 @@ todo_none : (earlier : Bool) (n : ℕ) → todo_of earlier n [] ≡ Ok []
 unfolding todo_of
 todo_none earlier n = refl
 
-sound : (texts : List (List ℕ)) (earlier : Bool) (n : ℕ) (ls : List Line) → NoFeeds texts → todo_of earlier n texts ≡ Ok ls → SpellAll earlier texts ls
+sound : (texts : List (List ℕ)) (earlier : Bool) (n : ℕ) (ls : List Line) → NoFeeds texts → todo_of earlier n texts ≡ Ok ls
+    → SpellAll earlier texts ls
 sound [] earlier n ls feeds h = let e : ◌≡◌ {A = Result (List Line) TodoFault} (Ok []) (Ok ls) = sym (todo_none earlier n) ∙ h in cc
 sound (text ∷ texts) earlier n ls feeds h =
     ⊎_elim
@@ -153,7 +154,8 @@ record Fails (earlier : Bool) (n : ℕ) (texts : List (List ℕ)) (e : TodoFault
   first : IsFirstBad earlier n texts number kind
 
 fails : (texts : List (List ℕ)) (earlier : Bool) (n : ℕ) (e : TodoFault) → NoFeeds texts → todo_of earlier n texts ≡ Err e → Fails earlier n texts e
-fails [] earlier n e feeds h = let bad : ◌≡◌ {A = Result (List Line) TodoFault} (Ok []) (Err e) = sym (todo_none earlier n) ∙ h in let no_way : ⊥ = cc in absurd no_way
+fails [] earlier n e feeds h =
+    let bad : ◌≡◌ {A = Result (List Line) TodoFault} (Ok []) (Err e) = sym (todo_none earlier n) ∙ h in let no_way : ⊥ = cc in absurd no_way
 fails (text ∷ texts) earlier n e feeds h =
     ⊎_elim
     (λ yes.
@@ -219,7 +221,8 @@ fails (text ∷ texts) earlier n e feeds h =
     (cases_Bool (is_comment text))
 
 -- what the reader gives is what is spelled
-pub todo_read : (earlier : Bool) (bytes : List ℕ) (r : Result (List Line) TodoFault) → TodoGives r (todo_of earlier 1 (lines bytes)) → IsTodoReading earlier bytes r
+pub todo_read : (earlier : Bool) (bytes : List ℕ) (r : Result (List Line) TodoFault) → TodoGives r (todo_of earlier 1 (lines bytes))
+    → IsTodoReading earlier bytes r
 todo_read earlier bytes (Ok ls) h = (
   sound (lines bytes) earlier 1 ls (no_feeds bytes) h,
   λ others s. let e : ◌≡◌ {A = Result (List Line) TodoFault} (Ok others) (Ok ls) = sym (complete (lines bytes) earlier 1 others s) ∙ h in cc,

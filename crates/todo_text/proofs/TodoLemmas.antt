@@ -17,11 +17,14 @@ led_by-led_by a b (Err fault) = refl
 module _ (earlier : Bool) (n : ℕ) (text : List ℕ) (texts : List (List ℕ)) where
   pub todo_comment : is_comment text ≡ true → todo_of earlier n (text ∷ texts) ≡ todo_of earlier (n + 1) texts
   unfolding todo_of
-  todo_comment e = ap (λ (v : Bool). cond v (todo_of earlier (n + 1) texts) (begun_by n (line_in earlier text) (λ (line : Line). todo_of (earlier || counts line) (n + 1) texts))) e
+  todo_comment e =
+      ap (λ (v : Bool). cond v (todo_of earlier (n + 1) texts) (begun_by n (line_in earlier text) (λ (line : Line). todo_of (earlier || counts line) (n + 1) texts))) e
 
-  todo_other : is_comment text ≡ false → todo_of earlier n (text ∷ texts) ≡ begun_by n (line_in earlier text) (λ (line : Line). todo_of (earlier || counts line) (n + 1) texts)
+  todo_other : is_comment text ≡ false
+      → todo_of earlier n (text ∷ texts) ≡ begun_by n (line_in earlier text) (λ (line : Line). todo_of (earlier || counts line) (n + 1) texts)
   unfolding todo_of
-  todo_other e = ap (λ (v : Bool). cond v (todo_of earlier (n + 1) texts) (begun_by n (line_in earlier text) (λ (line : Line). todo_of (earlier || counts line) (n + 1) texts))) e
+  todo_other e =
+      ap (λ (v : Bool). cond v (todo_of earlier (n + 1) texts) (begun_by n (line_in earlier text) (λ (line : Line). todo_of (earlier || counts line) (n + 1) texts))) e
 
   pub todo_line : (line : Line) → is_comment text ≡ false → line_in earlier text ≡ Ok line
       → todo_of earlier n (text ∷ texts) ≡ led_by (line ∷ []) (todo_of (earlier || counts line) (n + 1) texts)

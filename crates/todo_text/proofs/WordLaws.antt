@@ -179,7 +179,8 @@ pub trimmed_is : (text kept : List ℕ) → Trims text kept → trimmed text ≡
 trimmed_is text kept h =
     ap trimmed h.whole ∙ ap to_word (from_word-blanks h.front (kept ++ h.back) h.before) ∙ kept_is kept h.back h.begins h.ends h.behind
 
-ends_more : (b : ℕ) (kept bs back : List ℕ) → bs ≡ kept ++ back → AreBlanks back → ends_blank kept ≡ false → list_all is_blank (b ∷ bs) ≡ false → ends_blank (b ∷ kept) ≡ false
+ends_more : (b : ℕ) (kept bs back : List ℕ) → bs ≡ kept ++ back → AreBlanks back → ends_blank kept ≡ false → list_all is_blank (b ∷ bs) ≡ false
+    → ends_blank (b ∷ kept) ≡ false
 ends_more b [] bs back whole h ends some =
     let blank : list_all is_blank bs ≡ true = ap (list_all is_blank) whole ∙ h in
     sym (and-true (is_blank b)) ∙ ap (λ (v : Bool). is_blank b && v) (sym blank) ∙ some

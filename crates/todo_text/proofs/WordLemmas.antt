@@ -58,8 +58,11 @@ last_parts text some =
     let within : length text - 1 < length text = omega arith in
     sym (take_all (length text) text (omega arith)) ∙ ap (λ k. take k text) (sym n) ∙ take_more text (length text - 1) 0 within
 
-pub last_blank : (text : List ℕ) → 0 < length text → is_blank (get_or text (length text - 1) 0) ≡ true → to_word (take (length text - 1) text) ≡ to_word text
-last_blank text some e = sym (to_word-blank (take (length text - 1) text) (get_or text (length text - 1) 0) e) ∙ ap to_word (sym (last_parts text some))
+pub last_blank : (text : List ℕ) → 0 < length text → is_blank (get_or text (length text - 1) 0) ≡ true
+    → to_word (take (length text - 1) text) ≡ to_word text
+last_blank text some e =
+    sym (to_word-blank (take (length text - 1) text) (get_or text (length text - 1) 0) e) ∙ ap to_word (sym (last_parts text some))
 
 pub last_word : (text : List ℕ) → 0 < length text → is_blank (get_or text (length text - 1) 0) ≡ false → to_word text ≡ text
-last_word text some e = ap to_word (last_parts text some) ∙ to_word-word (take (length text - 1) text) (get_or text (length text - 1) 0) e ∙ sym (last_parts text some)
+last_word text some e =
+    ap to_word (last_parts text some) ∙ to_word-word (take (length text - 1) text) (get_or text (length text - 1) 0) e ∙ sym (last_parts text some)

@@ -54,7 +54,8 @@ folder_less (x ∷ a) (y ∷ b) e =
 head_le : (x y : ℕ) (a b : List ℕ) → is_less (x ∷ a) (y ∷ b) ≡ true → x ≤ y
 head_le x y a b e = at (ltb x y) refl (eqb x y) refl e
   where
-    at : (t : Bool) → ltb x y ≡ t → (u : Bool) → eqb x y ≡ u → is_lt (ordering_then (cond t Less (cond u Equal Greater)) (slice_cmp nat_cmp a b)) ≡ true → x ≤ y
+    at : (t : Bool) → ltb x y ≡ t → (u : Bool) → eqb x y ≡ u
+        → is_lt (ordering_then (cond t Less (cond u Equal Greater)) (slice_cmp nat_cmp a b)) ≡ true → x ≤ y
     at true l u f e = let k : x < y = (Decides-ltb x y).0 l in omega arith
     at false l true f e = let k : x ≡ y = (Decides-eqb x y).0 f in omega arith
     at false l false f e = absurd cc
@@ -75,11 +76,13 @@ under_parts : (u r : Planned) → is_under u r ≡ true → is_below u.path r.pa
 under_parts u r e = (both (is_present r.choice) (is_below u.path r.path) (both (is_present u.choice) _ e).1).1
 
 -- nothing before a path lies below it
-pub none_under_before : (rows : List Planned) (i k : ℕ) (u d : Planned) → AreInOrder rows → u ≡ get_or rows i u → i < length rows → k < i + 1 → is_under u (get_or rows k d) ≡ false
+pub none_under_before : (rows : List Planned) (i k : ℕ) (u d : Planned) → AreInOrder rows → u ≡ get_or rows i u → i < length rows → k < i + 1
+    → is_under u (get_or rows k d) ≡ false
 none_under_before rows i k u d order at_i within le = at (is_under u (get_or rows k d)) refl
   where
     less : is_below u.path (get_or rows k d).path ≡ true → is_less (get_or rows i d).path (get_or rows k d).path ≡ true
-    less e = subst (λ (w : Planned). is_less w.path (get_or rows k d).path ≡ true) (at_i ∙ get_or_default rows i u d within) (folder_less u.path (get_or rows k d).path e)
+    less e =
+        subst (λ (w : Planned). is_less w.path (get_or rows k d).path ≡ true) (at_i ∙ get_or_default rows i u d within) (folder_less u.path (get_or rows k d).path e)
 
     at : (t : Bool) → is_under u (get_or rows k d) ≡ t → t ≡ false
     at false e = refl
@@ -89,14 +92,16 @@ none_under_before rows i k u d order at_i within le = at (is_under u (get_or row
     ] refl
 
 -- where one behind a path does not begin with it, neither does any that follows
-pub none_under_behind : (rows : List Planned) (i j k : ℕ) (u d : Planned) → AreInOrder rows → u ≡ get_or rows i u → i < j → j ≤ k → k < length rows → begins (get_or rows j d).path u.path ≡ false → is_under u (get_or rows k d) ≡ false
+pub none_under_behind : (rows : List Planned) (i j k : ℕ) (u d : Planned) → AreInOrder rows → u ≡ get_or rows i u → i < j → j ≤ k → k < length rows
+    → begins (get_or rows j d).path u.path ≡ false → is_under u (get_or rows k d) ≡ false
 none_under_behind rows i j k u d order at_i lt le within none = at (is_under u (get_or rows k d)) refl
   where
     is_u : get_or rows i d ≡ u
     is_u = get_or_default rows i d u (omega arith) ∙ sym at_i
 
     begins_k : is_under u (get_or rows k d) ≡ true → begins (get_or rows k d).path u.path ≡ true
-    begins_k e = (both (begins (get_or rows k d).path u.path) (slice_index (get_or rows k d).path (length u.path) == 47) (under_parts u (get_or rows k d) e)).0
+    begins_k e =
+        (both (begins (get_or rows k d).path u.path) (slice_index (get_or rows k d).path (length u.path) == 47) (under_parts u (get_or rows k d) e)).0
 
     at : (t : Bool) → is_under u (get_or rows k d) ≡ t → t ≡ false
     at false e = refl
@@ -109,16 +114,19 @@ none_under_behind rows i j k u d order at_i lt le within none = at (is_under u (
           cc
     ] refl
 
-pub any_none : {X : Type 0} (test : X → Bool) (xs : List X) (i : ℕ) → ((k : ℕ) (d : X) → k < i → k < length xs → test (get_or xs k d) ≡ false) → list_any test (take i xs) ≡ false
+pub any_none : {X : Type 0} (test : X → Bool) (xs : List X) (i : ℕ) → ((k : ℕ) (d : X) → k < i → k < length xs → test (get_or xs k d) ≡ false)
+    → list_any test (take i xs) ≡ false
 any_none test [] zero h = refl
 any_none test [] (suc i) h = refl
 any_none test (x ∷ xs) zero h = refl
 any_none test (x ∷ xs) (suc i) h = rw (h zero x (omega arith) (omega arith)) (any_none test xs i (λ k d l m. h (suc k) d (omega arith) (omega arith)))
 
-pub any_until : {X : Type 0} (test : X → Bool) (xs : List X) (j : ℕ) → ((k : ℕ) (d : X) → j ≤ k → k < length xs → test (get_or xs k d) ≡ false) → list_any test (take j xs) ≡ list_any test xs
+pub any_until : {X : Type 0} (test : X → Bool) (xs : List X) (j : ℕ) → ((k : ℕ) (d : X) → j ≤ k → k < length xs → test (get_or xs k d) ≡ false)
+    → list_any test (take j xs) ≡ list_any test xs
 any_until test [] zero h = refl
 any_until test [] (suc j) h = refl
-any_until test (x ∷ xs) zero h = rw (h zero x (omega arith) (omega arith)) (any_until test xs zero (λ k d l m. h (suc k) d (omega arith) (omega arith)))
+any_until test (x ∷ xs) zero h =
+    rw (h zero x (omega arith) (omega arith)) (any_until test xs zero (λ k d l m. h (suc k) d (omega arith) (omega arith)))
 any_until test (x ∷ xs) (suc j) h = ap (λ (b : Bool). test x || b) (any_until test xs j (λ k d l m. h (suc k) d (omega arith) (omega arith)))
 
 pub or_false : (a : Bool) → a ≡ (a || false)
@@ -171,8 +179,11 @@ marks_done a b t k j is h = elim (ltb k j) as (λ x. ltb k j ≡ x → b ≡ (a 
     at_least e = grind (arith, Decides-ltb)
 
 -- one row more, which is marked
-pub marks_set : (old marks : List Bool) (t : ℕ → Bool) (j n : ℕ) → length marks ≡ n → j < n → t j ≡ true → ((k : ℕ) → k < n → get_or marks k false ≡ (get_or old k false || (ltb k j && t k))) → (k : ℕ) → k < n → get_or (set marks j true) k false ≡ (get_or old k false || (ltb k (j + 1) && t k))
-marks_set old marks t j n len within here is k l = elim (eqb k j) as (λ y. eqb k j ≡ y → get_or (set marks j true) k false ≡ (get_or old k false || (ltb k (j + 1) && t k))) [
+pub marks_set : (old marks : List Bool) (t : ℕ → Bool) (j n : ℕ) → length marks ≡ n → j < n → t j ≡ true
+    → ((k : ℕ) → k < n → get_or marks k false ≡ (get_or old k false || (ltb k j && t k))) → (k : ℕ) → k < n
+    → get_or (set marks j true) k false ≡ (get_or old k false || (ltb k (j + 1) && t k))
+marks_set old marks t j n len within here is k l =
+    elim (eqb k j) as (λ y. eqb k j ≡ y → get_or (set marks j true) k false ≡ (get_or old k false || (ltb k (j + 1) && t k))) [
   | true ↦ λ f.
       let same = (Decides-eqb k j).0 f in
       let k' : t k ≡ true = ap t same ∙ here in

@@ -84,5 +84,6 @@ pub result_map : (b o t : Entries) → IsPathMap b → IsPathMap o → IsPathMap
 result_map b o t base ours theirs calm = record {
   ascending = result_ascending b o t;
   apart = result_apart b o t base ours theirs (no_clash (plan_of b o t) calm);
-  files = all_files (taken_at b o t) (λ p. taken_file (entry_at b p) (entry_at o p) (entry_at t p) (file_at o p ours.files) (file_at t p theirs.files)) (paths_of (b ++ o ++ t));
+  files =
+      all_files (taken_at b o t) (λ p. taken_file (entry_at b p) (entry_at o p) (entry_at t p) (file_at o p ours.files) (file_at t p theirs.files)) (paths_of (b ++ o ++ t));
 }

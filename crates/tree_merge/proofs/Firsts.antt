@@ -26,7 +26,8 @@ without_none : (p : List ℕ) (es : Entries) → has p es ≡ false → without 
 without_none p [] h = refl
 without_none p (e ∷ es) h = at (without_none p es) (bytes_eq e.0 p) refl h
   where
-    at : (has p es ≡ false → without p es ≡ es) → (t : Bool) → bytes_eq e.0 p ≡ t → (t || has p es) ≡ false → cond (not t) (e ∷ without p es) (without p es) ≡ e ∷ es
+    at : (has p es ≡ false → without p es ≡ es) → (t : Bool) → bytes_eq e.0 p ≡ t → (t || has p es) ≡ false
+        → cond (not t) (e ∷ without p es) (without p es) ≡ e ∷ es
     at rest true is h = absurd cc
     at rest false is h = ap (λ (r : Entries). e ∷ r) (rest h)
 
@@ -65,11 +66,13 @@ pub first_of : (p : List ℕ) (es : Entries) → NoneBefore p es → has p es �
 first_of p [] h there = absurd cc
 first_of p (e ∷ es) h there = at (first_of p es h.1) (bytes_eq e.0 p) refl there
   where
-    put : (has p es ≡ true → paths_of es ≡ p ∷ paths_of (without p es)) → (u : Bool) → has p es ≡ u → with_path (paths_of es) p ≡ p ∷ paths_of (without p es)
+    put : (has p es ≡ true → paths_of es ≡ p ∷ paths_of (without p es)) → (u : Bool) → has p es ≡ u
+        → with_path (paths_of es) p ≡ p ∷ paths_of (without p es)
     put later true k = rw (later k, same_self p) refl
     put later false k = rw (without_none p es k) (first_with p (paths_of es) (all_paths (λ q. is_less p q ≡ true) es (behind_of p es h.1 k)))
 
-    at : (has p es ≡ true → paths_of es ≡ p ∷ paths_of (without p es)) → (t : Bool) → bytes_eq e.0 p ≡ t → (t || has p es) ≡ true → with_path (paths_of es) e.0 ≡ p ∷ paths_of (cond (not t) (e ∷ without p es) (without p es))
+    at : (has p es ≡ true → paths_of es ≡ p ∷ paths_of (without p es)) → (t : Bool) → bytes_eq e.0 p ≡ t → (t || has p es) ≡ true
+        → with_path (paths_of es) e.0 ≡ p ∷ paths_of (cond (not t) (e ∷ without p es) (without p es))
     at later true is there = rw (same_is e.0 p is) (put later (has p es) refl)
     at later false is there = rw (later there, same_swap p e.0, is, h.0) refl
 
@@ -77,7 +80,8 @@ pub filter_append : {X : Type 0} (test : X → Bool) (xs ys : List X) → filter
 filter_append test [] ys = refl
 filter_append {X = X} test (x ∷ xs) ys = at (filter_append test xs ys) (test x)
   where
-    at : filter test (xs ++ ys) ≡ filter test xs ++ filter test ys → (t : Bool) → cond t (x ∷ filter test (xs ++ ys)) (filter test (xs ++ ys)) ≡ cond t (x ∷ filter test xs) (filter test xs) ++ filter test ys
+    at : filter test (xs ++ ys) ≡ filter test xs ++ filter test ys → (t : Bool)
+        → cond t (x ∷ filter test (xs ++ ys)) (filter test (xs ++ ys)) ≡ cond t (x ∷ filter test xs) (filter test xs) ++ filter test ys
     at rest true = ap (λ (r : List X). x ∷ r) rest
     at rest false = rest
 

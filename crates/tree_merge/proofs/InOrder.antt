@@ -12,15 +12,18 @@ abbrev pub Ascends : List (List ℕ) → Type 0
 Ascends [] = Unit {0}
 Ascends (p ∷ ps) = AllByRecursion (λ q. is_less p q ≡ true) ps × Ascends ps
 
-all_less : (p a : List ℕ) (ps : List (List ℕ)) → is_less p a ≡ true → AllByRecursion (λ q. is_less a q ≡ true) ps → AllByRecursion (λ q. is_less p q ≡ true) ps
+all_less : (p a : List ℕ) (ps : List (List ℕ)) → is_less p a ≡ true → AllByRecursion (λ q. is_less a q ≡ true) ps
+    → AllByRecursion (λ q. is_less p q ≡ true) ps
 all_less p a [] l h = tt
 all_less p a (q ∷ ps) l h = (less_trans p a q l h.0, all_less p a ps l h.1)
 
-all_with : (a : List ℕ) (ps : List (List ℕ)) (p : List ℕ) → AllByRecursion (λ q. is_less a q ≡ true) ps → is_less a p ≡ true → AllByRecursion (λ q. is_less a q ≡ true) (with_path ps p)
+all_with : (a : List ℕ) (ps : List (List ℕ)) (p : List ℕ) → AllByRecursion (λ q. is_less a q ≡ true) ps → is_less a p ≡ true
+    → AllByRecursion (λ q. is_less a q ≡ true) (with_path ps p)
 all_with a [] p h here = (here, tt)
 all_with a (q ∷ ps) p h here = at (all_with a ps p h.1 here) (bytes_eq q p) (is_less p q)
   where
-    at : AllByRecursion (λ r. is_less a r ≡ true) (with_path ps p) → (t u : Bool) → AllByRecursion (λ r. is_less a r ≡ true) (cond t (q ∷ ps) (cond u (p ∷ q ∷ ps) (q ∷ with_path ps p)))
+    at : AllByRecursion (λ r. is_less a r ≡ true) (with_path ps p) → (t u : Bool)
+        → AllByRecursion (λ r. is_less a r ≡ true) (cond t (q ∷ ps) (cond u (p ∷ q ∷ ps) (q ∷ with_path ps p)))
     at rest true u = h
     at rest false true = (here, h)
     at rest false false = (h.0, rest)
@@ -29,7 +32,8 @@ ascends_with : (ps : List (List ℕ)) (p : List ℕ) → Ascends ps → Ascends 
 ascends_with [] p h = (tt, tt)
 ascends_with (q ∷ ps) p h = at (ascends_with ps p h.1) (bytes_eq q p) refl (is_less p q) refl
   where
-    at : Ascends (with_path ps p) → (t : Bool) → bytes_eq q p ≡ t → (u : Bool) → is_less p q ≡ u → Ascends (cond t (q ∷ ps) (cond u (p ∷ q ∷ ps) (q ∷ with_path ps p)))
+    at : Ascends (with_path ps p) → (t : Bool) → bytes_eq q p ≡ t → (u : Bool) → is_less p q ≡ u
+        → Ascends (cond t (q ∷ ps) (cond u (p ∷ q ∷ ps) (q ∷ with_path ps p)))
     at rest true e u f = h
     at rest false e true f = ((f, all_less p q ps f h.0), h)
     at rest false e false f = (all_with q ps p h.0 (otherwise_less q p e f), rest)
@@ -42,11 +46,13 @@ abbrev RowsAscend : List Planned → Type 0
 RowsAscend [] = Unit {0}
 RowsAscend (r ∷ rs) = AllByRecursion (λ s. is_less r.path s.path ≡ true) rs × RowsAscend rs
 
-all_kept : (p : List ℕ) (b o t : Entries) (ps : List (List ℕ)) → AllByRecursion (λ q. is_less p q ≡ true) ps → AllByRecursion (λ s. is_less p s.path ≡ true) (filter is_listed (map (row_at b o t) ps))
+all_kept : (p : List ℕ) (b o t : Entries) (ps : List (List ℕ)) → AllByRecursion (λ q. is_less p q ≡ true) ps
+    → AllByRecursion (λ s. is_less p s.path ≡ true) (filter is_listed (map (row_at b o t) ps))
 all_kept p b o t [] h = tt
 all_kept p b o t (q ∷ ps) h = at (all_kept p b o t ps h.1) (is_listed (row_at b o t q))
   where
-    at : AllByRecursion (λ s. is_less p s.path ≡ true) (filter is_listed (map (row_at b o t) ps)) → (u : Bool) → AllByRecursion (λ s. is_less p s.path ≡ true) (cond u (row_at b o t q ∷ filter is_listed (map (row_at b o t) ps)) (filter is_listed (map (row_at b o t) ps)))
+    at : AllByRecursion (λ s. is_less p s.path ≡ true) (filter is_listed (map (row_at b o t) ps)) → (u : Bool)
+        → AllByRecursion (λ s. is_less p s.path ≡ true) (cond u (row_at b o t q ∷ filter is_listed (map (row_at b o t) ps)) (filter is_listed (map (row_at b o t) ps)))
     at rest true = (h.0, rest)
     at rest false = rest
 
@@ -54,11 +60,13 @@ rows_kept : (b o t : Entries) (ps : List (List ℕ)) → Ascends ps → RowsAsce
 rows_kept b o t [] h = tt
 rows_kept b o t (q ∷ ps) h = at (rows_kept b o t ps h.1) (is_listed (row_at b o t q))
   where
-    at : RowsAscend (filter is_listed (map (row_at b o t) ps)) → (u : Bool) → RowsAscend (cond u (row_at b o t q ∷ filter is_listed (map (row_at b o t) ps)) (filter is_listed (map (row_at b o t) ps)))
+    at : RowsAscend (filter is_listed (map (row_at b o t) ps)) → (u : Bool)
+        → RowsAscend (cond u (row_at b o t q ∷ filter is_listed (map (row_at b o t) ps)) (filter is_listed (map (row_at b o t) ps)))
     at rest true = (all_kept q b o t ps h.0, rest)
     at rest false = rest
 
-at_each : (r : Planned) (rs : List Planned) → AllByRecursion (λ s. is_less r.path s.path ≡ true) rs → (k : ℕ) (d : Planned) → k < length rs → is_less r.path (get_or rs k d).path ≡ true
+at_each : (r : Planned) (rs : List Planned) → AllByRecursion (λ s. is_less r.path s.path ≡ true) rs → (k : ℕ) (d : Planned) → k < length rs
+    → is_less r.path (get_or rs k d).path ≡ true
 at_each r [] h k d l = absurd (omega arith)
 at_each r (s ∷ rs) h zero d l = h.0
 at_each r (s ∷ rs) h (suc k) d l = at_each r rs h.1 k d (omega arith)

@@ -25,7 +25,8 @@ mode_back Gitlink = refl
 mode_back Folder = refl
 
 pub mode_decides : (a b : Mode) → Decides (same_mode a b) (a ≡ b)
-mode_decides a b = (λ e. sym (mode_back a) ∙ ap mode_at ((Decides-eqb (mode_number a) (mode_number b)).0 e) ∙ mode_back b, λ e. (Decides-eqb (mode_number a) (mode_number b)).1 (ap mode_number e))
+mode_decides a b =
+    (λ e. sym (mode_back a) ∙ ap mode_at ((Decides-eqb (mode_number a) (mode_number b)).0 e) ∙ mode_back b, λ e. (Decides-eqb (mode_number a) (mode_number b)).1 (ap mode_number e))
 
 both : (a b : Bool) → a && b ≡ true → (a ≡ true) × (b ≡ true)
 both true true e = (refl, refl)
@@ -39,14 +40,16 @@ pub entry_decides : (a b : Option Entry) → Decides (same_entry a b) (a ≡ b)
 entry_decides None None = (λ _. refl, λ _. refl)
 entry_decides None (Some b) = (λ e. absurd cc, λ e. absurd cc)
 entry_decides (Some a) None = (λ e. absurd cc, λ e. absurd cc)
-entry_decides (Some a) (Some b) = (λ e. let p = both (same_mode a.mode b.mode) (same_id a.id b.id) e in ap Some (same_parts a b ((mode_decides a.mode b.mode).0 p.0) ((bytes_eq-Decides a.id b.id).0 p.1)), back)
+entry_decides (Some a) (Some b) =
+    (λ e. let p = both (same_mode a.mode b.mode) (same_id a.id b.id) e in ap Some (same_parts a b ((mode_decides a.mode b.mode).0 p.0) ((bytes_eq-Decides a.id b.id).0 p.1)), back)
   where
     ands : (x y : Bool) → x ≡ true → y ≡ true → x && y ≡ true
     ands true y e f = f
     ands false y e f = absurd cc
 
     back : Some a ≡ Some b → same_mode a.mode b.mode && same_id a.id b.id ≡ true
-    back e = let k : a ≡ b = cc in ands _ _ ((mode_decides a.mode b.mode).1 (ap (λ (x : Entry). x.mode) k)) ((bytes_eq-Decides a.id b.id).1 (ap (λ (x : Entry). x.id) k))
+    back e =
+        let k : a ≡ b = cc in ands _ _ ((mode_decides a.mode b.mode).1 (ap (λ (x : Entry). x.mode) k)) ((bytes_eq-Decides a.id b.id).1 (ap (λ (x : Entry). x.id) k))
 
 module _ {X : Type 0} (same : X → X → Bool) (decides : (x y : X) → Decides (same x y) (x ≡ y)) where
   same_swap : (x y : X) → same x y ≡ same y x
@@ -56,7 +59,8 @@ module _ {X : Type 0} (same : X → X → Bool) (decides : (x y : X) → Decides
   pub agreed_swap : (b o t : X) → agreed same b o t ≡ agreed same b t o
   agreed_swap b o t = at (same o t) refl (same b o) refl (same b t) refl
     where
-      at : (p : Bool) → same o t ≡ p → (q : Bool) → same b o ≡ q → (r : Bool) → same b t ≡ r → cond p (Some o) (cond q (Some t) (cond r (Some o) None)) ≡ agreed same b t o
+      at : (p : Bool) → same o t ≡ p → (q : Bool) → same b o ≡ q → (r : Bool) → same b t ≡ r
+          → cond p (Some o) (cond q (Some t) (cond r (Some o) None)) ≡ agreed same b t o
       at true e q f r g = rw (sym (same_swap o t) ∙ e) (ap Some ((decides o t).0 e))
       at false e true f true g = absurd (let k : same o t ≡ true = (decides o t).1 (sym ((decides b o).0 f) ∙ (decides b t).0 g) in cc)
       at false e true f false g = rw (sym (same_swap o t) ∙ e, g, f) refl
@@ -74,7 +78,8 @@ id_swap (Some b) o t id e = sym (agreed_swap same_id bytes_eq-Decides b.id o.id 
 mode_swap : (b : Option Entry) (o t : Entry) (mode : Mode) → merged_mode b o t ≡ Some mode → merged_mode b t o ≡ Some mode
 mode_swap None o t mode e = at (same_mode o.mode t.mode) refl e
   where
-    at : (p : Bool) → same_mode o.mode t.mode ≡ p → cond p (Some o.mode) None ≡ Some mode → cond (same_mode t.mode o.mode) (Some t.mode) None ≡ Some mode
+    at : (p : Bool) → same_mode o.mode t.mode ≡ p → cond p (Some o.mode) None ≡ Some mode
+        → cond (same_mode t.mode o.mode) (Some t.mode) None ≡ Some mode
     at true is e = rw (sym (same_swap same_mode mode_decides o.mode t.mode) ∙ is) (ap Some (sym ((mode_decides o.mode t.mode).0 is)) ∙ e)
     at false is e = absurd cc
 mode_swap (Some b) o t mode e = sym (agreed_swap same_mode mode_decides b.mode o.mode t.mode) ∙ e
@@ -82,7 +87,8 @@ mode_swap (Some b) o t mode e = sym (agreed_swap same_mode mode_decides b.mode o
 files_swap : (b : Option Entry) (o t : Entry) (e : Option Entry) → merged_files b o t ≡ Take e → merged_files b t o ≡ Take e
 files_swap b o t e = at (merged_id b o t) refl (merged_mode b o t) refl
   where
-    at : (i : Option (List ℕ)) → merged_id b o t ≡ i → (m : Option Mode) → merged_mode b o t ≡ m → by_parts o.mode i m ≡ Take e → merged_files b t o ≡ Take e
+    at : (i : Option (List ℕ)) → merged_id b o t ≡ i → (m : Option Mode) → merged_mode b o t ≡ m → by_parts o.mode i m ≡ Take e
+        → merged_files b t o ≡ Take e
     at (Some id) i (Some mode) m is = rw (id_swap b o t id i, mode_swap b o t mode m) is
     at (Some id) i None m is = absurd cc
     at None i (Some mode) m is = absurd cc
@@ -99,7 +105,8 @@ changed_swap b None t e is = absurd cc
 changed_swap b (Some o) None e is = absurd cc
 changed_swap b (Some o) (Some t) e is = at (may_be_file b && (is_file_mode o.mode && is_file_mode t.mode)) refl is
   where
-    at : (p : Bool) → may_be_file b && (is_file_mode o.mode && is_file_mode t.mode) ≡ p → cond p (merged_files b o t) (Conflict (Some o)) ≡ Take e → changed b (Some t) (Some o) ≡ Take e
+    at : (p : Bool) → may_be_file b && (is_file_mode o.mode && is_file_mode t.mode) ≡ p → cond p (merged_files b o t) (Conflict (Some o)) ≡ Take e
+        → changed b (Some t) (Some o) ≡ Take e
     at true p is = rw (sym (and_swap (may_be_file b) (is_file_mode o.mode) (is_file_mode t.mode)) ∙ p) (files_swap b o t e is)
     at false p is = absurd cc
 

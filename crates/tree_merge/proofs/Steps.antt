@@ -131,7 +131,8 @@ entry_after p q (e ∷ es) l = at (bytes_eq e.0 p) refl
     at true is = rw (same_is e.0 p is, less_apart p q l) refl
     at false is = refl
 
-rows_after : (b o t : Entries) (p : List ℕ) (ps : List (List ℕ)) → AllByRecursion (λ q. is_less p q ≡ true) ps → map (row_at b o t) ps ≡ map (row_at (after b p) (after o p) (after t p)) ps
+rows_after : (b o t : Entries) (p : List ℕ) (ps : List (List ℕ)) → AllByRecursion (λ q. is_less p q ≡ true) ps
+    → map (row_at b o t) ps ≡ map (row_at (after b p) (after o p) (after t p)) ps
 rows_after b o t p [] h = refl
 rows_after b o t p (q ∷ ps) h =
     let rest = rows_after b o t p ps h.1 in
@@ -220,13 +221,15 @@ step b o t p h e =
     }
 
 -- a listed row is next
-pub kept : (rows rest left all : List Planned) (row made : Planned) → rows ++ left ≡ all → left ≡ with_row row rest → made ≡ row → is_listed made ≡ true → rows ++ made ∷ [] ++ rest ≡ all
+pub kept : (rows rest left all : List Planned) (row made : Planned) → rows ++ left ≡ all → left ≡ with_row row rest → made ≡ row
+    → is_listed made ≡ true → rows ++ made ∷ [] ++ rest ≡ all
 kept rows rest left all row made is next same held =
     let k : is_listed row ≡ true = sym (ap is_listed same) ∙ held in
     let n : left ≡ row ∷ rest = next ∙ ap (λ (t : Bool). cond t (row ∷ rest) rest) k in
     append_assoc rows (made ∷ []) rest ∙ ap (λ (r : Planned). rows ++ (r ∷ rest)) same ∙ ap (λ (l : List Planned). rows ++ l) (sym n) ∙ is
 
-pub skipped : (rows rest left all : List Planned) (row made : Planned) → rows ++ left ≡ all → left ≡ with_row row rest → made ≡ row → is_listed made ≡ false → rows ++ rest ≡ all
+pub skipped : (rows rest left all : List Planned) (row made : Planned) → rows ++ left ≡ all → left ≡ with_row row rest → made ≡ row
+    → is_listed made ≡ false → rows ++ rest ≡ all
 skipped rows rest left all row made is next same failed =
     let k : is_listed row ≡ false = sym (ap is_listed same) ∙ failed in
     let n : left ≡ rest = next ∙ ap (λ (t : Bool). cond t (row ∷ rest) rest) k in

@@ -3,8 +3,8 @@
 use crate::failure::{Failure, value};
 use cases::{Answer, Case, CaseFault, kind_of, kind_word, put_commit};
 use object_text::{
-    TextFault, commit_text, object_header, object_text, parse_commit, parse_object, parse_tree,
-    tree_text,
+    TextFault, commit_text, object_header, object_text, parse_commit, parse_object, parse_tag,
+    parse_tree, tree_text,
 };
 use seq_base::Id;
 use sha1::Sha1;
@@ -65,6 +65,14 @@ pub fn tree_again(case: &mut Case<'_>) -> Result<(), CaseFault> {
     let parsed = parse_tree(case.alloc, case.fields.bytes()?);
     let entries = value(parsed, &mut case.out)?;
     case.out.bytes(&tree_text(case.alloc, &entries)?)?;
+    Ok(())
+}
+
+/// CONTENT: the id of the object that the tag names.
+pub fn tagged(case: &mut Case<'_>) -> Result<(), CaseFault> {
+    let parsed = parse_tag(case.fields.bytes()?);
+    let id = value(parsed, &mut case.out)?;
+    case.out.id(id)?;
     Ok(())
 }
 

@@ -1,10 +1,10 @@
 //! Cases of `ref_text`.
 
 use crate::failure::{Failure, value};
-use cases::{Answer, Case, CaseFault, log_line_behind, put_log_line};
+use cases::{Answer, Case, CaseFault, log_line_behind, put_head, put_log_line};
 use ref_text::{
     Head, HeadFault, LineFault, head_text, log_text, packed_text, parse_head, parse_log,
-    parse_packed,
+    parse_loose, parse_packed,
 };
 use seq_base::is_ref_name;
 use std::alloc::AllocError;
@@ -30,13 +30,16 @@ impl Failure for LineFault {
 /// TEXT: `branch` and its name, or `detached` and an id.
 pub fn head(case: &mut Case<'_>) -> Result<(), CaseFault> {
     let parsed = parse_head(case.alloc, case.fields.bytes()?);
-    match value(parsed, &mut case.out)? {
-        Head::Branch(name) => case.out.named(b"branch", name.as_slice())?,
-        Head::Detached(id) => {
-            case.out.word(b"detached")?;
-            case.out.id(id)?;
-        }
-    }
+    let head = value(parsed, &mut case.out)?;
+    put_head(&mut case.out, &head)?;
+    Ok(())
+}
+
+/// TEXT: the same of a loose ref.
+pub fn loose(case: &mut Case<'_>) -> Result<(), CaseFault> {
+    let parsed = parse_loose(case.alloc, case.fields.bytes()?);
+    let head = value(parsed, &mut case.out)?;
+    put_head(&mut case.out, &head)?;
     Ok(())
 }
 

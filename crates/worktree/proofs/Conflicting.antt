@@ -23,18 +23,23 @@ no_files (f ∷ fs) h = absurd (omega arith)
 abbrev pub SameBarred : World → List IndexEntry → Files → Files → Type 0
 SameBarred w from all rest = first_barred w from rest ≡ first_barred w from all
 
-barred : (w : World) (from : List IndexEntry) (f : Path × ConflictFile) (fs : Files) → is_barred w from f ≡ true → first_barred w from (f ∷ fs) ≡ Some f.0
+barred : (w : World) (from : List IndexEntry) (f : Path × ConflictFile) (fs : Files) → is_barred w from f ≡ true
+    → first_barred w from (f ∷ fs) ≡ Some f.0
 unfolding first_barred
 barred w from f fs is = rw is refl
 
-free : (w : World) (from : List IndexEntry) (f : Path × ConflictFile) (fs : Files) → is_barred w from f ≡ false → first_barred w from (f ∷ fs) ≡ first_barred w from fs
+free : (w : World) (from : List IndexEntry) (f : Path × ConflictFile) (fs : Files) → is_barred w from f ≡ false
+    → first_barred w from (f ∷ fs) ≡ first_barred w from fs
 unfolding first_barred
 free w from f fs is = rw is refl
 
-pub barred_at : (w : World) (from : List IndexEntry) (all rest : Files) (f : Path × ConflictFile) → SameBarred w from all rest → 0 < length rest → f ≡ get_or rest 0 f → is_barred w from f ≡ true → Some f.0 ≡ first_barred w from all
-barred_at w from all rest f same some first is = sym (barred w from f _ is) ∙ ap (first_barred w from) (sym (first_and_others rest f some first)) ∙ same
+pub barred_at : (w : World) (from : List IndexEntry) (all rest : Files) (f : Path × ConflictFile) → SameBarred w from all rest → 0 < length rest
+    → f ≡ get_or rest 0 f → is_barred w from f ≡ true → Some f.0 ≡ first_barred w from all
+barred_at w from all rest f same some first is =
+    sym (barred w from f _ is) ∙ ap (first_barred w from) (sym (first_and_others rest f some first)) ∙ same
 
-pub free_at : (w : World) (from : List IndexEntry) (all rest : Files) (f : Path × ConflictFile) → SameBarred w from all rest → 0 < length rest → f ≡ get_or rest 0 f → is_barred w from f ≡ false
+pub free_at : (w : World) (from : List IndexEntry) (all rest : Files) (f : Path × ConflictFile) → SameBarred w from all rest → 0 < length rest
+    → f ≡ get_or rest 0 f → is_barred w from f ≡ false
     → SameBarred w from all (take (length rest - 1) (drop 1 rest))
 free_at w from all rest f same some first is = sym (free w from f _ is) ∙ ap (first_barred w from) (sym (first_and_others rest f some first)) ∙ same
 
@@ -51,20 +56,24 @@ all_free w from all rest same none = sym (none_barred w from) ∙ ap (first_barr
 abbrev pub SameWrites : World → List IndexEntry → List Write → Files → List Write → Files → Type 0
 SameWrites w from begun all now rest = with_files w from now rest ≡ with_files w from begun all
 
-goes_on : (w : World) (from : List IndexEntry) (now next : List Write) (f : Path × ConflictFile) (fs : Files) → with_file w from now f ≡ Ok next → with_files w from now (f ∷ fs) ≡ with_files w from next fs
+goes_on : (w : World) (from : List IndexEntry) (now next : List Write) (f : Path × ConflictFile) (fs : Files) → with_file w from now f ≡ Ok next
+    → with_files w from now (f ∷ fs) ≡ with_files w from next fs
 unfolding with_files
 goes_on w from now next f fs is = rw is refl
 
-fails : (w : World) (from : List IndexEntry) (now : List Write) (f : Path × ConflictFile) (fs : Files) (why : Lack) → with_file w from now f ≡ Err why → with_files w from now (f ∷ fs) ≡ Err why
+fails : (w : World) (from : List IndexEntry) (now : List Write) (f : Path × ConflictFile) (fs : Files) (why : Lack) → with_file w from now f ≡ Err why
+    → with_files w from now (f ∷ fs) ≡ Err why
 unfolding with_files
 fails w from now f fs why is = rw is refl
 
-pub one_written_more : (w : World) (from : List IndexEntry) (begun now next : List Write) (all rest : Files) (f : Path × ConflictFile) → SameWrites w from begun all now rest → 0 < length rest → f ≡ get_or rest 0 f
+pub one_written_more : (w : World) (from : List IndexEntry) (begun now next : List Write) (all rest : Files) (f : Path × ConflictFile)
+    → SameWrites w from begun all now rest → 0 < length rest → f ≡ get_or rest 0 f
     → with_file w from now f ≡ Ok next → SameWrites w from begun all next (take (length rest - 1) (drop 1 rest))
 one_written_more w from begun now next all rest f same some first is =
     sym (goes_on w from now next f (take (length rest - 1) (drop 1 rest)) is) ∙ ap (with_files w from now) (sym (first_and_others rest f some first)) ∙ same
 
-pub writing_denied : (w : World) (from : List IndexEntry) (begun now : List Write) (all rest : Files) (f : Path × ConflictFile) (halt : Halt Lack) → SameWrites w from begun all now rest → 0 < length rest → f ≡ get_or rest 0 f
+pub writing_denied : (w : World) (from : List IndexEntry) (begun now : List Write) (all rest : Files) (f : Path × ConflictFile) (halt : Halt Lack)
+    → SameWrites w from begun all now rest → 0 < length rest → f ≡ get_or rest 0 f
     → Denies halt (with_file w from now f) → Denies halt (with_files w from begun all)
 writing_denied w from begun now all rest f (Stops why) same some first denied =
     sym same ∙ ap (with_files w from now) (first_and_others rest f some first) ∙ fails w from now f (take (length rest - 1) (drop 1 rest)) why denied
@@ -75,5 +84,6 @@ no_more : (w : World) (from : List IndexEntry) (now : List Write) → with_files
 unfolding with_files
 no_more w from now = refl
 
-pub all_written_too : (w : World) (from : List IndexEntry) (begun now : List Write) (all rest : Files) → SameWrites w from begun all now rest → length rest ≡ 0 → with_files w from begun all ≡ Ok now
+pub all_written_too : (w : World) (from : List IndexEntry) (begun now : List Write) (all rest : Files) → SameWrites w from begun all now rest
+    → length rest ≡ 0 → with_files w from begun all ≡ Ok now
 all_written_too w from begun now all rest same none = sym same ∙ ap (with_files w from now) (no_files rest none) ∙ no_more w from now

@@ -19,11 +19,13 @@ pub record LeftOver (start now : World) (all rest : List Write) : Type 0 where
   pub way : Way start now all rest
   pub elsewhere : (path : Path) → is_written all path ≡ false → (map.get now path ≡ map.get start path) × (is_written rest path ≡ false)
 
-one_made : (now next : World) (write : Write) (rest : List Write) → write_made write now ≡ (Ok tt, next) → writes_made (write ∷ rest) now ≡ writes_made rest next
+one_made : (now next : World) (write : Write) (rest : List Write) → write_made write now ≡ (Ok tt, next)
+    → writes_made (write ∷ rest) now ≡ writes_made rest next
 unfolding writes_made
 one_made now next write rest made = rw made refl
 
-pub one_left : (start now next : World) (all rest : List Write) (write : Write) → LeftOver start now all (write ∷ rest) → write_made write now ≡ (Ok tt, next)
+pub one_left : (start now next : World) (all rest : List Write) (write : Write) → LeftOver start now all (write ∷ rest)
+    → write_made write now ≡ (Ok tt, next)
     → next ≡ after now write → ((path : Path) → is_at path write ≡ false → map.get next path ≡ map.get now path) → LeftOver start next all rest
 one_left start now next all rest write left made is other = record {
   means = left.means ∙ one_made now next write rest made;
@@ -35,17 +37,21 @@ one_left start now next all rest write left made is other = record {
 }
 
 -- where one stops all do
-stopped : (now next : World) (write : Write) (rest : List Write) (why : Lack) → write_made write now ≡ (Err why, next) → writes_made (write ∷ rest) now ≡ (Err why, next)
+stopped : (now next : World) (write : Write) (rest : List Write) (why : Lack) → write_made write now ≡ (Err why, next)
+    → writes_made (write ∷ rest) now ≡ (Err why, next)
 unfolding writes_made
 stopped now next write rest why is = rw is refl
 
-pub one_stopped : (start now next : World) (all rest : List Write) (write : Write) (halt : Halt Lack) → LeftOver start now all (write ∷ rest) → Turns {X = Unit {0}} {Y = Unit {0}} (λ x. x) (Err halt) (write_made write now) next → Turns {X = Unit {0}} {Y = Unit {0}} (λ x. x) (Err halt) (writes_made all start) next
+pub one_stopped : (start now next : World) (all rest : List Write) (write : Write) (halt : Halt Lack) → LeftOver start now all (write ∷ rest)
+    → Turns {X = Unit {0}} {Y = Unit {0}} (λ x. x) (Err halt) (write_made write now) next
+    → Turns {X = Unit {0}} {Y = Unit {0}} (λ x. x) (Err halt) (writes_made all start) next
 one_stopped start now next all rest write (Stops why) left is = left.means ∙ stopped now next write rest why is
 one_stopped start now next all rest write Fault left is = tt
 one_stopped start now next all rest write Memory left is = tt
 
 -- a front was made, whatever ended the last one
-pub front_stopped : (start now next : World) (all rest : List Write) (write : Write) (halt : Halt Lack) → LeftOver start now all (write ∷ rest) → StepLeaves {X = Unit {0}} (Err halt) now write next → IsFront start all next
+pub front_stopped : (start now next : World) (all rest : List Write) (write : Write) (halt : Halt Lack) → LeftOver start now all (write ∷ rest)
+    → StepLeaves {X = Unit {0}} (Err halt) now write next → IsFront start all next
 front_stopped start now next all rest write halt left leaves = at halt leaves
   where
     here : next ≡ now → IsFront start all next

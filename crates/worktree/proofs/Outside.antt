@@ -97,7 +97,8 @@ filtered_out : (path : Path) (files : List Path) → IsPath path → AllOut (fil
 filtered_out path [] is = tt
 filtered_out path (f ∷ fs) is = at (is_below path f) refl (filtered_out path fs is)
   where
-    at : (b : Bool) → is_below path f ≡ b → AllOut (filter (is_below path) fs) → AllOut (cond b (f ∷ filter (is_below path) fs) (filter (is_below path) fs))
+    at : (b : Bool) → is_below path f ≡ b → AllOut (filter (is_below path) fs)
+        → AllOut (cond b (f ∷ filter (is_below path) fs) (filter (is_below path) fs))
     at true below rest = (below_outside path f is below, rest)
     at false below rest = rest
 
@@ -106,11 +107,13 @@ listed_out w [] is = let some = is.some in absurd (omega arith)
 listed_out w (b ∷ path) is = filtered_out (b ∷ path) (file.keys w) is
 
 none_at : (p q : Path) → IsGitPath q → OutOfGit p → eq_by_cmp path_cmp q p ≡ false
-none_at p q in_git out = false_from_ne_true (eq_by_cmp path_cmp q p) (λ same. both_ways (is_below git q) (ap (is_below git) (same_path q p same) ∙ out) in_git.0)
+none_at p q in_git out =
+    false_from_ne_true (eq_by_cmp path_cmp q p) (λ same. both_ways (is_below git q) (ap (is_below git) (same_path q p same) ∙ out) in_git.0)
 
 removals_out : (ps : List Path) (q : Path) → IsGitPath q → AllOut ps → is_written (map removal ps) q ≡ false
 removals_out [] q in_git out = refl
-removals_out (p ∷ ps) q in_git out = or_from (eq_by_cmp path_cmp q p) (is_written (map removal ps) q) (none_at p q in_git out.0) (removals_out ps q in_git out.1)
+removals_out (p ∷ ps) q in_git out =
+    or_from (eq_by_cmp path_cmp q p) (is_written (map removal ps) q) (none_at p q in_git out.0) (removals_out ps q in_git out.1)
 
 pub over_outside : (w : World) (path : Path) (bytes : Text) (ws : List Write) → IsPath path → ws ≡ over w path bytes → AreOutside ws
 over_outside w path bytes ws is made q in_git =
@@ -162,11 +165,13 @@ rows_as_before old new [] stays = refl
 rows_as_before old new (e ∷ es) stays = rw (row_as_before old new e stays, rows_as_before old new es stays) refl
 
 -- the first can be read, and the others
-pub rows_first : (w : World) (e : Path × Entry) (es : Entries) → rows_readable w (e ∷ es) ≡ Ok tt → (row_readable w e ≡ Ok tt) × (rows_readable w es ≡ Ok tt)
+pub rows_first : (w : World) (e : Path × Entry) (es : Entries) → rows_readable w (e ∷ es) ≡ Ok tt
+    → (row_readable w e ≡ Ok tt) × (rows_readable w es ≡ Ok tt)
 unfolding rows_readable
 rows_first w e es is = at (row_readable w e) refl is
   where
-    at : (r : Result (Unit {0}) Lack) → row_readable w e ≡ r → (r >>= λ _. rows_readable w es) ≡ Ok tt → (row_readable w e ≡ Ok tt) × (rows_readable w es ≡ Ok tt)
+    at : (r : Result (Unit {0}) Lack) → row_readable w e ≡ r → (r >>= λ _. rows_readable w es) ≡ Ok tt
+        → (row_readable w e ≡ Ok tt) × (rows_readable w es ≡ Ok tt)
     at (Ok tt) first rest = (first, rest)
     at (Err why) first rest = absurd cc
 
@@ -192,14 +197,16 @@ unfolding writes_made
 writes_stop [] w new why is = let never : Ok tt ≡ Err why = ap (λ (p : Answer). p.0) is in absurd cc
 writes_stop (x ∷ ws) w new why is = at (write_made x w) refl is (λ v rest. writes_stop ws v new why rest)
   where
-    at : (s : Answer) → write_made x w ≡ s → go_on s (λ _. writes_made ws) ≡ (Err why, new) → ((v : World) → writes_made ws v ≡ (Err why, new) → IsWay why) → IsWay why
+    at : (s : Answer) → write_made x w ≡ s → go_on s (λ _. writes_made ws) ≡ (Err why, new)
+        → ((v : World) → writes_made ws v ≡ (Err why, new) → IsWay why) → IsWay why
     at (Ok y, v) made rest later = later v rest
     at (Err other, v) made rest later =
         let same : Err other ≡ Err why = ap (λ (p : Answer). p.0) rest in
         let reason : other ≡ why = cc in
         subst IsWay reason (write_stops x w v other made)
 
-pub making_stops : (ws : List Write) (w new : World) (halt : Halt Lack) → Turns {X = Unit {0}} {Y = Unit {0}} (λ x. x) (Err halt) (writes_made ws w) new → OnlyWay halt
+pub making_stops : (ws : List Write) (w new : World) (halt : Halt Lack)
+    → Turns {X = Unit {0}} {Y = Unit {0}} (λ x. x) (Err halt) (writes_made ws w) new → OnlyWay halt
 making_stops ws w new (Stops why) is = writes_stop ws w new why is
 making_stops ws w new Fault is = tt
 making_stops ws w new Memory is = tt
@@ -227,6 +234,7 @@ row_stops w e (Stops why) denied readable = absurd (row_denied w e why denied re
 row_stops w e Fault denied readable = tt
 row_stops w e Memory denied readable = tt
 
-pub making_only : (r : Result (Unit {0}) (Halt Lack)) (ws : List Write) (w new : World) → Turns {X = Unit {0}} {Y = Unit {0}} (λ x. x) r (writes_made ws w) new → IfErr r OnlyWay
+pub making_only : (r : Result (Unit {0}) (Halt Lack)) (ws : List Write) (w new : World)
+    → Turns {X = Unit {0}} {Y = Unit {0}} (λ x. x) r (writes_made ws w) new → IfErr r OnlyWay
 making_only (Ok x) ws w new is = tt
 making_only (Err halt) ws w new is = making_stops ws w new halt is

@@ -40,7 +40,8 @@ unfolding writes_made
 all_after [] old new is = sym (ap (λ (p : Answer). p.1) is)
 all_after (x ∷ ws) old new is = at (write_made x old) refl is (λ w rest. all_after ws w new rest)
   where
-    at : (s : Answer) → write_made x old ≡ s → go_on s (λ _. writes_made ws) ≡ (Ok tt, new) → ((w : World) → writes_made ws w ≡ (Ok tt, new) → new ≡ written w ws) → new ≡ written (after old x) ws
+    at : (s : Answer) → write_made x old ≡ s → go_on s (λ _. writes_made ws) ≡ (Ok tt, new)
+        → ((w : World) → writes_made ws w ≡ (Ok tt, new) → new ≡ written w ws) → new ≡ written (after old x) ws
     at (Ok y, w) made rest later = later w rest ∙ ap (λ (v : World). written v ws) (one_after x old w made)
     at (Err why, w) made rest later = let never : Err why ≡ Ok tt = ap (λ (p : Answer). p.0) rest in absurd cc
 
@@ -60,10 +61,12 @@ row_was e old new is = at (row_writes old e) refl is
 
 -- ---- paths one after another
 
-front_then : (ws more : List Write) (w : World) (first rest : Result (List Write) Lack) → first ≡ Ok ws → rest ≡ Ok more → (first >>= λ a. (rest >>= λ b. Ok (a ++ b))) ≡ Ok (ws ++ more)
+front_then : (ws more : List Write) (w : World) (first rest : Result (List Write) Lack) → first ≡ Ok ws → rest ≡ Ok more
+    → (first >>= λ a. (rest >>= λ b. Ok (a ++ b))) ≡ Ok (ws ++ more)
 front_then ws more w first rest is also = rw (is, also) refl
 
-rows_one : (w : World) (e : Path × Entry) (es : Entries) (ws more : List Write) → row_writes w e ≡ Ok ws → rows_writes (written w ws) es ≡ Ok more → rows_writes w (e ∷ es) ≡ Ok (ws ++ more)
+rows_one : (w : World) (e : Path × Entry) (es : Entries) (ws more : List Write) → row_writes w e ≡ Ok ws → rows_writes (written w ws) es ≡ Ok more
+    → rows_writes w (e ∷ es) ≡ Ok (ws ++ more)
 unfolding rows_writes
 rows_one w e es ws more is also = rw (is, also) refl
 
@@ -79,7 +82,8 @@ split : (w : World) (e : Path × Entry) (es : Entries) (all : List Write) → ro
 unfolding rows_writes
 split w e es all is = at (row_writes w e) refl is
   where
-    at : (r : Result (List Write) Lack) → row_writes w e ≡ r → (r >>= λ a. (rows_writes (written w a) es >>= λ b. Ok (a ++ b))) ≡ Ok all → Split w e es all
+    at : (r : Result (List Write) Lack) → row_writes w e ≡ r → (r >>= λ a. (rows_writes (written w a) es >>= λ b. Ok (a ++ b))) ≡ Ok all
+        → Split w e es all
     at (Err why) first made = absurd cc
     at (Ok a) first made = by (rows_writes (written w a) es) refl made
       where
@@ -91,7 +95,8 @@ none_yet : (w : World) → rows_writes w [] ≡ Ok []
 unfolding rows_writes
 none_yet w = refl
 
-rows_snoc : (es : Entries) (w : World) (e : Path × Entry) (ws xs : List Write) → rows_writes w es ≡ Ok ws → row_writes (written w ws) e ≡ Ok xs → rows_writes w (es ++ e ∷ []) ≡ Ok (ws ++ xs)
+rows_snoc : (es : Entries) (w : World) (e : Path × Entry) (ws xs : List Write) → rows_writes w es ≡ Ok ws → row_writes (written w ws) e ≡ Ok xs
+    → rows_writes w (es ++ e ∷ []) ≡ Ok (ws ++ xs)
 rows_snoc [] w e ws xs is last =
     let none : ws ≡ [] = let same : Ok ws ≡ Ok [] = sym is ∙ none_yet w in cc in
     let here : row_writes w e ≡ Ok xs = subst (λ (vs : List Write). row_writes (written w vs) e ≡ Ok xs) none last in
@@ -116,7 +121,8 @@ so_far_init w all same = record { done = []; writes = []; are = none_yet w; is =
 moved : (done : Entries) (e : IndexEntry) (others : List IndexEntry) → done ++ map row_of (e ∷ others) ≡ (done ++ row_of e ∷ []) ++ map row_of others
 moved done e others = sym (append_assoc done (row_of e ∷ []) (map row_of others))
 
-pub so_far_more : (start now next : World) (all rest : List IndexEntry) (e : IndexEntry) → ResetSoFar start now all rest → 0 < length rest → e ≡ get_or rest 0 e → row_reset (row_of e) now ≡ (Ok tt, next) → ResetSoFar start next all (take (length rest - 1) (drop 1 rest))
+pub so_far_more : (start now next : World) (all rest : List IndexEntry) (e : IndexEntry) → ResetSoFar start now all rest → 0 < length rest
+    → e ≡ get_or rest 0 e → row_reset (row_of e) now ≡ (Ok tt, next) → ResetSoFar start next all (take (length rest - 1) (drop 1 rest))
 so_far_more start now next all rest e so_far some first is =
     let others = take (length rest - 1) (drop 1 rest) in
     let row = row_was (row_of e) now next is in
@@ -126,7 +132,9 @@ so_far_more start now next all rest e so_far some first is =
       writes = so_far.writes ++ row.writes;
       are = rows_snoc so_far.done start (row_of e) so_far.writes row.writes so_far.are here;
       is = row.is ∙ ap (λ (w : World). written w row.writes) so_far.is ∙ sym (written-append start so_far.writes row.writes);
-      split = so_far.split ∙ ap (λ (es : List IndexEntry). so_far.done ++ map row_of es) (first_and_others rest e some first) ∙ moved so_far.done e others;
+      split =
+          so_far.split ∙ ap (λ (es : List IndexEntry). so_far.done ++ map row_of es) (first_and_others rest e some first)
+          ∙ moved so_far.done e others;
     }
 
 -- ---- fronts
@@ -147,11 +155,15 @@ whole_front w ws = record { made = length ws; is = ap (written w) (sym (take_all
 front_behind : (start now new : World) (ws xs : List Write) → now ≡ written start ws → IsFront now xs new → IsFront start (ws ++ xs) new
 front_behind start now new ws xs is front = record {
   made = length ws + front.made;
-  is = front.is ∙ ap (λ (w : World). written w (take front.made xs)) is ∙ sym (written-append start ws (take front.made xs)) ∙ ap (written start) (sym (take_behind ws xs front.made));
+  is =
+      front.is ∙ ap (λ (w : World). written w (take front.made xs)) is ∙ sym (written-append start ws (take front.made xs))
+      ∙ ap (written start) (sym (take_behind ws xs front.made));
 }
 
-first_are : (start : World) (to done : Entries) (rest : Entries) (ws : List Write) → to ≡ done ++ rest → rows_writes start done ≡ Ok ws → rows_writes start (take (length done) to) ≡ Ok ws
-first_are start to done rest ws is are = ap (λ (es : Entries). rows_writes start (take (length done) es)) is ∙ ap (rows_writes start) (take_front done rest) ∙ are
+first_are : (start : World) (to done : Entries) (rest : Entries) (ws : List Write) → to ≡ done ++ rest → rows_writes start done ≡ Ok ws
+    → rows_writes start (take (length done) to) ≡ Ok ws
+first_are start to done rest ws is are =
+    ap (λ (es : Entries). rows_writes start (take (length done) es)) is ∙ ap (rows_writes start) (take_front done rest) ∙ are
 
 pub rows_all : (start now : World) (all rest : List IndexEntry) → ResetSoFar start now all rest → IsRowsFront (map_of all) start now
 rows_all start now all rest so_far = record {
@@ -161,8 +173,10 @@ rows_all start now all rest so_far = record {
   front = subst (IsFront start so_far.writes) (sym so_far.is) (whole_front start so_far.writes);
 }
 
-pub rows_stopped : (start now new : World) (all rest : List IndexEntry) (e : IndexEntry) → ResetSoFar start now all rest → 0 < length rest → e ≡ get_or rest 0 e → IsRowFront (row_of e) now new → IsRowsFront (map_of all) start new
-rows_stopped start now new all rest e so_far some first (inl same) = subst (IsRowsFront (map_of all) start) (sym same) (rows_all start now all rest so_far)
+pub rows_stopped : (start now new : World) (all rest : List IndexEntry) (e : IndexEntry) → ResetSoFar start now all rest → 0 < length rest
+    → e ≡ get_or rest 0 e → IsRowFront (row_of e) now new → IsRowsFront (map_of all) start new
+rows_stopped start now new all rest e so_far some first (inl same) =
+    subst (IsRowsFront (map_of all) start) (sym same) (rows_all start now all rest so_far)
 rows_stopped start now new all rest e so_far some first (inr (xs, are, front)) =
     let others = take (length rest - 1) (drop 1 rest) in
     let here : row_writes (written start so_far.writes) (row_of e) ≡ Ok xs = subst (λ (w : World). row_writes w (row_of e) ≡ Ok xs) so_far.is are in
@@ -170,18 +184,21 @@ rows_stopped start now new all rest e so_far some first (inr (xs, are, front)) =
     record {
       n = length (so_far.done ++ row_of e ∷ []);
       writes = so_far.writes ++ xs;
-      are = first_are start (map_of all) (so_far.done ++ row_of e ∷ []) (map row_of others) (so_far.writes ++ xs) whole (rows_snoc so_far.done start (row_of e) so_far.writes xs so_far.are here);
+      are =
+          first_are start (map_of all) (so_far.done ++ row_of e ∷ []) (map row_of others) (so_far.writes ++ xs) whole (rows_snoc so_far.done start (row_of e) so_far.writes xs so_far.are here);
       front = front_behind start now new so_far.writes xs so_far.is front;
     }
 
 -- ---- all of it
 
-reset_then : (w : World) (from : List IndexEntry) (to first : Entries) (more : List Write) → rows_writes (written w (reset_first from to)) first ≡ Ok more → reset_writes w from to first ≡ Ok (reset_first from to ++ more)
+reset_then : (w : World) (from : List IndexEntry) (to first : Entries) (more : List Write)
+    → rows_writes (written w (reset_first from to)) first ≡ Ok more → reset_writes w from to first ≡ Ok (reset_first from to ++ more)
 unfolding reset_writes
 reset_then w from to first more is = rw is refl
 
 -- not all removals were made, or the index was not written
-pub first_stopped : (from : List IndexEntry) (to : Entries) (old new : World) (ws : List Write) → ws ≡ reset_first from to → IsFront old ws new → IsResetFront from to old new
+pub first_stopped : (from : List IndexEntry) (to : Entries) (old new : World) (ws : List Write) → ws ≡ reset_first from to → IsFront old ws new
+    → IsResetFront from to old new
 first_stopped from to old new ws is front = record {
   n = 0;
   writes = reset_first from to ++ [];
@@ -189,7 +206,8 @@ first_stopped from to old new ws is front = record {
   front = subst (λ (vs : List Write). IsFront old vs new) (is ∙ sym (append-nil (reset_first from to))) front;
 }
 
-pub rows_front : (from : List IndexEntry) (to : Entries) (old mid new : World) (ws : List Write) → ws ≡ reset_first from to → writes_made ws old ≡ (Ok tt, mid) → IsRowsFront to mid new → IsResetFront from to old new
+pub rows_front : (from : List IndexEntry) (to : Entries) (old mid new : World) (ws : List Write) → ws ≡ reset_first from to
+    → writes_made ws old ≡ (Ok tt, mid) → IsRowsFront to mid new → IsResetFront from to old new
 rows_front from to old mid new ws is made front =
     let made_is : mid ≡ written old (reset_first from to) = all_after ws old mid made ∙ ap (written old) is in
     record {

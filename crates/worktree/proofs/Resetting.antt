@@ -49,11 +49,13 @@ unreadable : (w : World) (e : Path × Entry) (es : Entries) (why : Lack) → row
 unfolding rows_readable
 unreadable w e es why is = rw is refl
 
-pub readable_more : (w : World) (all rest : List IndexEntry) (e : IndexEntry) → SameReadable w all rest → 0 < length rest → e ≡ get_or rest 0 e → row_readable w (row_of e) ≡ Ok tt → SameReadable w all (take (length rest - 1) (drop 1 rest))
+pub readable_more : (w : World) (all rest : List IndexEntry) (e : IndexEntry) → SameReadable w all rest → 0 < length rest → e ≡ get_or rest 0 e
+    → row_readable w (row_of e) ≡ Ok tt → SameReadable w all (take (length rest - 1) (drop 1 rest))
 readable_more w all rest e same some first is =
     sym (readable_on w (row_of e) (map row_of (take (length rest - 1) (drop 1 rest))) is) ∙ ap (λ (es : List IndexEntry). rows_readable w (map row_of es)) (sym (first_and_others rest e some first)) ∙ same
 
-pub readable_denied : (w : World) (all rest : List IndexEntry) (e : IndexEntry) (halt : Halt Lack) → SameReadable w all rest → 0 < length rest → e ≡ get_or rest 0 e → Denies halt (row_readable w (row_of e)) → Denies halt (rows_readable w (map_of all))
+pub readable_denied : (w : World) (all rest : List IndexEntry) (e : IndexEntry) (halt : Halt Lack) → SameReadable w all rest → 0 < length rest
+    → e ≡ get_or rest 0 e → Denies halt (row_readable w (row_of e)) → Denies halt (rows_readable w (map_of all))
 readable_denied w all rest e (Stops why) same some first denied =
     sym same ∙ ap (λ (es : List IndexEntry). rows_readable w (map row_of es)) (first_and_others rest e some first) ∙ unreadable w (row_of e) (map row_of (take (length rest - 1) (drop 1 rest))) why denied
 readable_denied w all rest e Fault same some first denied = tt
@@ -79,15 +81,18 @@ reset_on : (now next : World) (e : Path × Entry) (es : Entries) → row_reset e
 unfolding rows_reset
 reset_on now next e es is = rw is refl
 
-reset_stops : (now next : World) (e : Path × Entry) (es : Entries) (why : Lack) → row_reset e now ≡ (Err why, next) → rows_reset (e ∷ es) now ≡ (Err why, next)
+reset_stops : (now next : World) (e : Path × Entry) (es : Entries) (why : Lack) → row_reset e now ≡ (Err why, next)
+    → rows_reset (e ∷ es) now ≡ (Err why, next)
 unfolding rows_reset
 reset_stops now next e es why is = rw is refl
 
-pub reset_more : (start now next : World) (all rest : List IndexEntry) (e : IndexEntry) → SameReset start now all rest → 0 < length rest → e ≡ get_or rest 0 e → row_reset (row_of e) now ≡ (Ok tt, next) → SameReset start next all (take (length rest - 1) (drop 1 rest))
+pub reset_more : (start now next : World) (all rest : List IndexEntry) (e : IndexEntry) → SameReset start now all rest → 0 < length rest
+    → e ≡ get_or rest 0 e → row_reset (row_of e) now ≡ (Ok tt, next) → SameReset start next all (take (length rest - 1) (drop 1 rest))
 reset_more start now next all rest e same some first is =
     sym (reset_on now next (row_of e) (map row_of (take (length rest - 1) (drop 1 rest))) is) ∙ ap (λ (es : List IndexEntry). rows_reset (map row_of es) now) (sym (first_and_others rest e some first)) ∙ same
 
-pub reset_stopped : (start now next : World) (all rest : List IndexEntry) (e : IndexEntry) (halt : Halt Lack) → SameReset start now all rest → 0 < length rest → e ≡ get_or rest 0 e
+pub reset_stopped : (start now next : World) (all rest : List IndexEntry) (e : IndexEntry) (halt : Halt Lack) → SameReset start now all rest
+    → 0 < length rest → e ≡ get_or rest 0 e
     → Turns {X = Unit {0}} {Y = Unit {0}} (λ x. x) (Err halt) (row_reset (row_of e) now) next → Turns {X = Unit {0}} {Y = Unit {0}} (λ x. x) (Err halt) (rows_reset (map_of all) start) next
 reset_stopped start now next all rest e (Stops why) same some first is =
     sym same ∙ ap (λ (es : List IndexEntry). rows_reset (map row_of es) now) (first_and_others rest e some first) ∙ reset_stops now next (row_of e) (map row_of (take (length rest - 1) (drop 1 rest))) why is
@@ -98,16 +103,20 @@ none_reset : (now : World) → rows_reset [] now ≡ (Ok tt, now)
 unfolding rows_reset
 none_reset now = refl
 
-pub all_reset : (start now : World) (all rest : List IndexEntry) → SameReset start now all rest → length rest ≡ 0 → rows_reset (map_of all) start ≡ (Ok tt, now)
-all_reset start now all rest same none = sym same ∙ ap (λ (es : List IndexEntry). rows_reset (map row_of es) now) (no_entries rest none) ∙ none_reset now
+pub all_reset : (start now : World) (all rest : List IndexEntry) → SameReset start now all rest → length rest ≡ 0
+    → rows_reset (map_of all) start ≡ (Ok tt, now)
+all_reset start now all rest same none =
+    sym same ∙ ap (λ (es : List IndexEntry). rows_reset (map row_of es) now) (no_entries rest none) ∙ none_reset now
 
 -- the index of a map is written
-pub index_write_is : (index : List IndexEntry) → index ≡ indexed (map_of index) → Put (codes ".git/index") (index_text index) ≡ index_write (map_of index)
+pub index_write_is : (index : List IndexEntry) → index ≡ indexed (map_of index)
+    → Put (codes ".git/index") (index_text index) ≡ index_write (map_of index)
 index_write_is index is = ap (λ (es : List IndexEntry). Put (codes ".git/index") (index_text es)) is
 
 -- ---- files in the way
 
-pub above_next : (w : World) (path : Path) (n : ℕ) (now next : List Path) → now ≡ files_above w path n → next ≡ now ++ file_above w path n → next ≡ files_above w path (n + 1)
+pub above_next : (w : World) (path : Path) (n : ℕ) (now next : List Path) → now ≡ files_above w path n → next ≡ now ++ file_above w path n
+    → next ≡ files_above w path (n + 1)
 above_next w path n now next so_far pushed =
     let k : n + 1 ≡ suc n = omega arith in
     rw k (pushed ∙ ap (λ (ps : List Path). ps ++ file_above w path n) so_far)

@@ -45,7 +45,8 @@ same_writes (Ok ws) = refl
 same_writes (Err e) = refl
 
 -- one after the other
-both_writes : (w : World) (xs ys : Entries) → blob_writes w (xs ++ ys) ≡ (blob_writes w xs >>= λ first. (blob_writes w ys >>= λ more. Ok (first ++ more)))
+both_writes : (w : World) (xs ys : Entries)
+    → blob_writes w (xs ++ ys) ≡ (blob_writes w xs >>= λ first. (blob_writes w ys >>= λ more. Ok (first ++ more)))
 unfolding blob_writes
 both_writes w [] ys = same_writes (blob_writes w ys)
 both_writes w (x ∷ xs) ys = at (blob_named w x.1.id) (both_writes w xs ys)
@@ -54,9 +55,11 @@ both_writes w (x ∷ xs) ys = at (blob_named w x.1.id) (both_writes w xs ys)
         → (r >>= λ bytes. (blob_writes w (xs ++ ys) >>= λ others. Ok (Put x.0 bytes ∷ others)))
         ≡ ((r >>= λ bytes. (blob_writes w xs >>= λ others. Ok (Put x.0 bytes ∷ others))) >>= λ first. (blob_writes w ys >>= λ more. Ok (first ++ more)))
     at (Err e) later = refl
-    at (Ok bytes) later = ap (λ (r : Result (List Write) Lack). r >>= λ others. Ok (Put x.0 bytes ∷ others)) later ∙ inner (blob_writes w xs) (blob_writes w ys)
+    at (Ok bytes) later =
+        ap (λ (r : Result (List Write) Lack). r >>= λ others. Ok (Put x.0 bytes ∷ others)) later ∙ inner (blob_writes w xs) (blob_writes w ys)
       where
-        inner : (p q : Result (List Write) Lack) → ((p >>= λ first. (q >>= λ more. Ok (first ++ more))) >>= λ others. Ok (Put x.0 bytes ∷ others)) ≡ ((p >>= λ others. Ok (Put x.0 bytes ∷ others)) >>= λ first. (q >>= λ more. Ok (first ++ more)))
+        inner : (p q : Result (List Write) Lack)
+            → ((p >>= λ first. (q >>= λ more. Ok (first ++ more))) >>= λ others. Ok (Put x.0 bytes ∷ others)) ≡ ((p >>= λ others. Ok (Put x.0 bytes ∷ others)) >>= λ first. (q >>= λ more. Ok (first ++ more)))
         inner (Err e) q = refl
         inner (Ok ws) (Err e) = refl
         inner (Ok ws) (Ok vs) = refl
@@ -64,7 +67,8 @@ both_writes w (x ∷ xs) ys = at (blob_named w x.1.id) (both_writes w xs ys)
 chosen_split : (from : List IndexEntry) (x : IndexEntry) (xs : List IndexEntry) → chosen from (x ∷ xs) ≡ chosen from (x ∷ []) ++ chosen from xs
 chosen_split from x xs = filter-append (is_rewritten from) (row_of x ∷ []) (map row_of xs)
 
-split_means : (w : World) (from all : List IndexEntry) (x : IndexEntry) (xs : List IndexEntry) (made : List Write) → blob_writes w (chosen from all) ≡ (blob_writes w (chosen from (x ∷ xs)) >>= λ more. Ok (made ++ more))
+split_means : (w : World) (from all : List IndexEntry) (x : IndexEntry) (xs : List IndexEntry) (made : List Write)
+    → blob_writes w (chosen from all) ≡ (blob_writes w (chosen from (x ∷ xs)) >>= λ more. Ok (made ++ more))
     → blob_writes w (chosen from all) ≡ ((blob_writes w (chosen from (x ∷ [])) >>= λ first. (blob_writes w (chosen from xs) >>= λ more. Ok (first ++ more))) >>= λ more. Ok (made ++ more))
 split_means w from all x xs made so_far =
     so_far ∙ ap (λ (r : Result (List Write) Lack). r >>= λ more. Ok (made ++ more)) (ap (blob_writes w) (chosen_split from x xs) ∙ both_writes w (chosen from (x ∷ [])) (chosen from xs))
@@ -73,7 +77,8 @@ split_means w from all x xs made so_far =
 abbrev pub Pushed : World → List IndexEntry → IndexEntry → List Write → List Write → Type 0
 Pushed w from x now new = (first : List Write) × (blob_writes w (chosen from (x ∷ [])) ≡ Ok first) × (new ≡ now ++ first)
 
-pub blobs_more : (w : World) (from all rest : List IndexEntry) (old now new : List Write) (x : IndexEntry) → BlobsSoFar w from all rest old now → 0 < length rest → x ≡ get_or rest 0 x
+pub blobs_more : (w : World) (from all rest : List IndexEntry) (old now new : List Write) (x : IndexEntry) → BlobsSoFar w from all rest old now
+    → 0 < length rest → x ≡ get_or rest 0 x
     → (first : List Write) × (blob_writes w (chosen from (x ∷ [])) ≡ Ok first) × (new ≡ now ++ first) → BlobsSoFar w from all (take (length rest - 1) (drop 1 rest)) old new
 blobs_more w from all rest old now new x so_far some is pushed =
     let others = take (length rest - 1) (drop 1 rest) in
@@ -81,22 +86,28 @@ blobs_more w from all rest old now new x so_far some is pushed =
     record {
       made = so_far.made ++ pushed.0;
       now_is = pushed.2 ∙ ap (λ (ws : List Write). ws ++ pushed.0) so_far.now_is ∙ append_assoc old so_far.made pushed.0;
-      means = split_means w from all x others so_far.made means ∙ ap (λ (r : Result (List Write) Lack). (r >>= λ first. (blob_writes w (chosen from others) >>= λ more. Ok (first ++ more))) >>= λ more. Ok (so_far.made ++ more)) pushed.1 ∙ regroup so_far.made pushed.0 (blob_writes w (chosen from others));
+      means =
+          split_means w from all x others so_far.made means
+          ∙ ap (λ (r : Result (List Write) Lack). (r >>= λ first. (blob_writes w (chosen from others) >>= λ more. Ok (first ++ more))) >>= λ more. Ok (so_far.made ++ more)) pushed.1
+          ∙ regroup so_far.made pushed.0 (blob_writes w (chosen from others));
     }
   where
-    regroup : (made first : List Write) (r : Result (List Write) Lack) → ((r >>= λ more. Ok (first ++ more)) >>= λ more. Ok (made ++ more)) ≡ (r >>= λ more. Ok ((made ++ first) ++ more))
+    regroup : (made first : List Write) (r : Result (List Write) Lack)
+        → ((r >>= λ more. Ok (first ++ more)) >>= λ more. Ok (made ++ more)) ≡ (r >>= λ more. Ok ((made ++ first) ++ more))
     regroup made first (Err e) = refl
     regroup made first (Ok more) = ap Ok (sym (append_assoc made first more))
 
 -- where one fails all do
-fails_with : (w : World) (from all rest : List IndexEntry) (old now : List Write) (x : IndexEntry) (e : Lack) → BlobsSoFar w from all rest old now → 0 < length rest → x ≡ get_or rest 0 x
+fails_with : (w : World) (from all rest : List IndexEntry) (old now : List Write) (x : IndexEntry) (e : Lack) → BlobsSoFar w from all rest old now
+    → 0 < length rest → x ≡ get_or rest 0 x
     → blob_writes w (chosen from (x ∷ [])) ≡ Err e → blob_writes w (chosen from all) ≡ Err e
 fails_with w from all rest old now x e so_far some is failed =
     let others = take (length rest - 1) (drop 1 rest) in
     let means = subst (λ (es : List IndexEntry). blob_writes w (chosen from all) ≡ (blob_writes w (chosen from es) >>= λ more. Ok (so_far.made ++ more))) (first_and_others rest x some is) so_far.means in
     split_means w from all x others so_far.made means ∙ ap (λ (r : Result (List Write) Lack). (r >>= λ first. (blob_writes w (chosen from others) >>= λ more. Ok (first ++ more))) >>= λ more. Ok (so_far.made ++ more)) failed
 
-pub blobs_denied : (w : World) (from all rest : List IndexEntry) (old now : List Write) (x : IndexEntry) (halt : Halt Lack) → BlobsSoFar w from all rest old now → 0 < length rest → x ≡ get_or rest 0 x
+pub blobs_denied : (w : World) (from all rest : List IndexEntry) (old now : List Write) (x : IndexEntry) (halt : Halt Lack)
+    → BlobsSoFar w from all rest old now → 0 < length rest → x ≡ get_or rest 0 x
     → Denies halt (blob_writes w (chosen from (x ∷ []))) → Denies halt (blob_writes w (chosen from all))
 blobs_denied w from all rest old now x (Stops why) so_far some is denied = fails_with w from all rest old now x why so_far some is denied
 blobs_denied w from all rest old now x Fault so_far some is denied = tt
@@ -106,22 +117,26 @@ last : (w : World) (made : List Write) → (blob_writes w [] >>= λ more. Ok (ma
 unfolding blob_writes
 last w made = ap Ok (nothing_more made)
 
-pub blobs_end : (w : World) (from all rest : List IndexEntry) (old now : List Write) → BlobsSoFar w from all rest old now → length rest ≡ 0 → (made : List Write) × (blob_writes w (chosen from all) ≡ Ok made) × (now ≡ old ++ made)
+pub blobs_end : (w : World) (from all rest : List IndexEntry) (old now : List Write) → BlobsSoFar w from all rest old now → length rest ≡ 0
+    → (made : List Write) × (blob_writes w (chosen from all) ≡ Ok made) × (now ≡ old ++ made)
 blobs_end w from all rest old now so_far none =
     (so_far.made, so_far.means ∙ ap (λ (es : List IndexEntry). blob_writes w (chosen from es) >>= λ more. Ok (so_far.made ++ more)) (no_entries rest none) ∙ last w so_far.made, so_far.now_is)
 
 -- ---- all of it
 
-fails_so : (w : World) (from : List IndexEntry) (to : Entries) (why : Lack) → blob_writes w (filter (is_rewritten from) to) ≡ Err why → clear_writes w from to ≡ Err why
+fails_so : (w : World) (from : List IndexEntry) (to : Entries) (why : Lack) → blob_writes w (filter (is_rewritten from) to) ≡ Err why
+    → clear_writes w from to ≡ Err why
 unfolding clear_writes
 fails_so w from to why is = rw is refl
 
-pub clear_denied : (w : World) (from : List IndexEntry) (to : Entries) (halt : Halt Lack) → Denies halt (blob_writes w (filter (is_rewritten from) to)) → Denies halt (clear_writes w from to)
+pub clear_denied : (w : World) (from : List IndexEntry) (to : Entries) (halt : Halt Lack)
+    → Denies halt (blob_writes w (filter (is_rewritten from) to)) → Denies halt (clear_writes w from to)
 clear_denied w from to (Stops why) denied = fails_so w from to why denied
 clear_denied w from to Fault denied = tt
 clear_denied w from to Memory denied = tt
 
-pub all_writes : (w : World) (from : List IndexEntry) (to : Entries) (blobs : List Write) → blob_writes w (filter (is_rewritten from) to) ≡ Ok blobs → clear_writes w from to ≡ Ok (removals from to ++ index_write to ∷ blobs)
+pub all_writes : (w : World) (from : List IndexEntry) (to : Entries) (blobs : List Write) → blob_writes w (filter (is_rewritten from) to) ≡ Ok blobs
+    → clear_writes w from to ≡ Ok (removals from to ++ index_write to ∷ blobs)
 unfolding clear_writes
 all_writes w from to blobs is = rw is refl
 
@@ -129,7 +144,8 @@ all_writes w from to blobs is = rw is refl
 pub rows_in : (to : Entries) (items slice : List IndexEntry) → items ≡ indexed to → items ≡ slice → map row_of slice ≡ to
 rows_in to items slice is same = ap (map row_of) (sym same ∙ is) ∙ rows_of-indexed to
 
-pub gathered : (from : List IndexEntry) (to : Entries) (items second third : List IndexEntry) (old removed indexed_too all made : List Write) (x : Write) → items ≡ indexed to → map_of items ≡ to → items ≡ second → items ≡ third
+pub gathered : (from : List IndexEntry) (to : Entries) (items second third : List IndexEntry) (old removed indexed_too all made : List Write) (x : Write)
+    → items ≡ indexed to → map_of items ≡ to → items ≡ second → items ≡ third
     → old ≡ [] → removed ≡ old ++ removals from (map_of second) → x ≡ Put (codes ".git/index") (index_text third) → indexed_too ≡ removed ++ x ∷ [] → all ≡ indexed_too ++ made → removals from to ++ index_write to ∷ made ≡ all
 gathered from to items second third old removed indexed_too all made x is map_is two three none gone write pushed last =
     let removed_is : removed ≡ removals from to = gone ∙ ap (λ (ws : List Write). ws ++ removals from (map_of second)) none ∙ ap (λ (es : List IndexEntry). removals from (map_of es)) (sym two) ∙ ap (removals from) map_is in

@@ -51,4 +51,5 @@ unbarred w from index files = stop_found (first_barred w from (conflict_files in
 
 -- a front of what leaves the conflict was made
 abbrev pub IsConflictFront : List IndexEntry → List IndexEntry → Files → World → World → Type 0
-IsConflictFront from index files old new = (new ≡ old) ⊎ ((writes : List Write) × (conflict_writes old from index files ≡ Ok writes) × IsFront old writes new)
+IsConflictFront from index files old new =
+    (new ≡ old) ⊎ ((writes : List Write) × (conflict_writes old from index files ≡ Ok writes) × IsFront old writes new)

@@ -9,4 +9,5 @@ loop-rest-preserved c =
     (omega arith) c.file-item.is c.in_ok-here.ensures c.or-first.ensures c.loop-rest.invariant
 
 pub returns : goal.returns
-returns c = files_end (told c.args.known.now) c.args.path.now c.loop-rest.rest.now c.args.files.now c.loop-rest.first c.in_default.len_below c.loop-rest.invariant
+returns c =
+    files_end (told c.args.known.now) c.args.path.now c.loop-rest.rest.now c.args.files.now c.loop-rest.first c.in_default.len_below c.loop-rest.invariant

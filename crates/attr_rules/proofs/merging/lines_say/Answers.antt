@@ -9,4 +9,5 @@ loop-rest-preserved c =
     (omega arith) c.line-item.is c.in_ok-line_says.ensures c.or-last.ensures c.loop-rest.invariant
 
 pub returns : goal.returns
-returns c = lines_end (told c.args.known.now) c.args.path.now c.loop-rest.rest.now c.args.lines.now c.loop-rest.last c.in_default.len_below c.loop-rest.invariant
+returns c =
+    lines_end (told c.args.known.now) c.args.path.now c.loop-rest.rest.now c.args.lines.now c.loop-rest.last c.in_default.len_below c.loop-rest.invariant

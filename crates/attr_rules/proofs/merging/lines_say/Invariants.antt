@@ -6,7 +6,8 @@ use Rattle.attr_rules.specs.MergeAttrs.{LinesSay}
 use Rattle.attr_rules.proofs.merging.lines_say.Given as goal
 
 abbrev pub invariant-loop-rest : goal.invariant-loop-rest
-invariant-loop-rest l = (later : Option MergeAttr) → LinesSay (told l.known) l.path l.rest later → LinesSay (told l.known) l.path l.lines (option_or later l.last)
+invariant-loop-rest l =
+    (later : Option MergeAttr) → LinesSay (told l.known) l.path l.rest later → LinesSay (told l.known) l.path l.lines (option_or later l.last)
 
 abbrev pub decreases-loop-rest : goal.decreases-loop-rest
 decreases-loop-rest l = length l.rest

@@ -26,7 +26,8 @@ loop-rest-preserved g c =
     c.job-item.result (drop 1 c.loop-rest.rest.now)
     c.in-Ok.end _ (g.S.Store.seen c.run_driver.new.store) (first_job c.loop-rest.rest.now c.job-item.result (omega (arith, c.in-len1-up.len_at_least)) c.job-item.is) c.in-Ok.ensures.drives in
     record {
-      so_far = restated g.S.Store.told g.P.Spawner.ran c.args.jobs.now c.args.spawner.now (g.S.Store.seen c.args.store.now).content _ _ _ _ _ _ _ pushed (others_are c.loop-rest.rest.now) next;
+      so_far =
+          restated g.S.Store.told g.P.Spawner.ran c.args.jobs.now c.args.spawner.now (g.S.Store.seen c.args.store.now).content _ _ _ _ _ _ _ pushed (others_are c.loop-rest.rest.now) next;
       number = search (rules, c.loop-rest.invariant.number);
       store = search (rules, c.loop-rest.invariant.store, c.in-Ok.ensures.cause);
       children = search (rules, c.loop-rest.invariant.children, c.in-Ok.ensures.cause);

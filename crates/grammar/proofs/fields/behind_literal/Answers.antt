@@ -3,15 +3,19 @@ use Rattle.grammar.proofs.Scans.{literal_more, literal_off, literal_short, liter
 use Rattle.grammar.proofs.fields.behind_literal.Goals as goal
 
 pub returns-then-i-bytes : goal.returns-then-i-bytes
-returns-then-i-bytes c = sym c.loop-i.invariant.same ∙ literal_short c.args.literal.now c.args.bytes.now c.loop-i.i c.loop-i-test.true c.if-i-bytes.true
+returns-then-i-bytes c =
+    sym c.loop-i.invariant.same ∙ literal_short c.args.literal.now c.args.bytes.now c.loop-i.i c.loop-i-test.true c.if-i-bytes.true
 
 pub returns-then-bytes-i : goal.returns-then-bytes-i
-returns-then-bytes-i c = sym c.loop-i.invariant.same ∙ literal_off c.args.literal.now c.args.bytes.now c.loop-i.i c.loop-i-test.true c.if-i-bytes.false c.if-bytes-i.true
+returns-then-bytes-i c =
+    sym c.loop-i.invariant.same ∙ literal_off c.args.literal.now c.args.bytes.now c.loop-i.i c.loop-i-test.true c.if-i-bytes.false c.if-bytes-i.true
 
 pub loop-i-preserved : goal.loop-i-preserved
 loop-i-preserved c = record {
   within = omega arith;
-  same = sym (literal_more c.args.literal.now c.args.bytes.now c.loop-i.i c.loop-i-test.true c.if-i-bytes.false c.if-bytes-i.false) ∙ c.loop-i.invariant.same;
+  same =
+      sym (literal_more c.args.literal.now c.args.bytes.now c.loop-i.i c.loop-i-test.true c.if-i-bytes.false c.if-bytes-i.false)
+      ∙ c.loop-i.invariant.same;
 }
 
 pub returns : goal.returns

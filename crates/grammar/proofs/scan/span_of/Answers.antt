@@ -26,10 +26,12 @@ loop-i-preserved g c =
     let may = ap (λ (m : List ℕ → Bool). m (take (c.loop-i.i + 1) c.args.bytes.now)) c.loop-i.invariant.same in
     record {
       same = c.goes_on.ensures.same ∙ c.loop-i.invariant.same;
-      seen = c.goes_on.ensures.seen (take c.loop-i.i c.args.bytes.now) (get_or c.args.bytes.now c.loop-i.i 0) c.loop-i.invariant.seen more c.if-not-goes_on.false;
+      seen =
+          c.goes_on.ensures.seen (take c.loop-i.i c.args.bytes.now) (get_or c.args.bytes.now c.loop-i.i 0) c.loop-i.invariant.seen more c.if-not-goes_on.false;
       read = sym (scan_more (g.S.Scan.may c.args.scan.now) word c.args.stop c.args.bytes.now c.loop-i.i c.loop-i-test.true c.if-b-stop.false
           (sym may ∙ sym test ∙ c.if-not-goes_on.false)) ∙ c.loop-i.invariant.read;
     }
 
 pub returns-clause-read : goal.returns-clause-read
-returns-clause-read g c = sym c.loop-i.invariant.read ∙ scan_short (g.S.Scan.may c.args.scan.now) word c.args.stop c.args.bytes.now c.loop-i.i c.loop-i-test.false
+returns-clause-read g c =
+    sym c.loop-i.invariant.read ∙ scan_short (g.S.Scan.may c.args.scan.now) word c.args.stop c.args.bytes.now c.loop-i.i c.loop-i-test.false

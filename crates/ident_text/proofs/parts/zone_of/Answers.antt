@@ -5,4 +5,5 @@ pub zone_from_parts-requires-clause-sign : goal.zone_from_parts-requires-clause-
 zone_from_parts-requires-clause-sign c = sign_length c.args.bytes.now c.in_ok-sign.sign.now c.in_ok-sign.rest.now c.in_ok-sign.ensures
 
 pub zone_from_parts-requires-clause-digits : goal.zone_from_parts-requires-clause-digits
-zone_from_parts-requires-clause-digits c = digits_length c.in_ok-sign.rest.now c.in_ok-digits.digits.now c.in_ok-digits.rest.now c.in_ok-digits.ensures
+zone_from_parts-requires-clause-digits c =
+    digits_length c.in_ok-sign.rest.now c.in_ok-digits.digits.now c.in_ok-digits.rest.now c.in_ok-digits.ensures

@@ -11,7 +11,8 @@ overflow_add-common_len c =
     let le : c.common_len.result ≤ length c.args.last.now = omega (arith, c.common_len.ensures, common_is c.args.last.now c.args.path.now, (common_le c.args.last.now c.args.path.now).0) in
     omega (arith, c.args.files.now.ok.0, c.args.files.now.small)
 
-resized : (r : Result (Unit {0}) AllocError) (new mid old : List Bool) (len m k n : ℕ) → mid ≡ take (m + 1) old → len ≡ length mid → m ≡ k → k ≤ n → k + 1 ≤ length old
+resized : (r : Result (Unit {0}) AllocError) (new mid old : List Bool) (len m k n : ℕ) → mid ≡ take (m + 1) old → len ≡ length mid → m ≡ k → k ≤ n
+    → k + 1 ≤ length old
     → new ≡ cond (is_ok r) (take (n + 1) mid ++ replicate (n + 1 - len) false) mid → OnOk r (new ≡ take (k + 1) old ++ replicate (n - k) false)
 resized (Err f) new mid old len m k n p q e le long h = tt
 resized (Ok x) new mid old len m k n p q e le long h =

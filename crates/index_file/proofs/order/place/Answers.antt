@@ -6,15 +6,20 @@ use Rattle.index_file.proofs.Sorted.{not_after, placed_other, placed_file}
 use Rattle.index_file.proofs.order.place.Goals as goal
 
 pub returns-then-not-is_after_all-clause-placed : goal.returns-then-not-is_after_all-clause-placed
-returns-then-not-is_after_all-clause-placed c = sym (not_after c.args.entries.now c.args.entry.now c.requires.in_order (sym c.if-not-is_after_all.ensures))
+returns-then-not-is_after_all-clause-placed c =
+    sym (not_after c.args.entries.now c.args.entry.now c.requires.in_order (sym c.if-not-is_after_all.ensures))
 
 pub move_to-requires : goal.move_to-requires
-move_to-requires c = ap length c.requires.fronts ∙ length-fronts (files_of c.args.entries.now) (path_of (last_of c.args.entries.now)) ∙ ap (λ (p : List ℕ). length p + 1) (sym c.last_path.ensures)
+move_to-requires c =
+    ap length c.requires.fronts ∙ length-fronts (files_of c.args.entries.now) (path_of (last_of c.args.entries.now))
+    ∙ ap (λ (p : List ℕ). length p + 1) (sym c.last_path.ensures)
 
-moved : (last path last' path' : List ℕ) (marks new : List Bool) → last' ≡ last → path' ≡ path → new ≡ carried last' marks path' → new ≡ carried last marks path
+moved : (last path last' path' : List ℕ) (marks new : List Bool) → last' ≡ last → path' ≡ path → new ≡ carried last' marks path'
+    → new ≡ carried last marks path
 moved last path last' path' marks new p q h = cc
 
-below_at : (below : Bool) (marks marks' : List Bool) (path path' : List ℕ) → marks' ≡ marks → path' ≡ path → below ≡ is_below_front marks' path' → below ≡ is_below_front marks path
+below_at : (below : Bool) (marks marks' : List Bool) (path path' : List ℕ) → marks' ≡ marks → path' ≡ path → below ≡ is_below_front marks' path'
+    → below ≡ is_below_front marks path
 below_at below marks marks' path path' p q h = cc
 
 pub returns-then-entry-ne0-clause-placed : goal.returns-then-entry-ne0-clause-placed

@@ -25,4 +25,6 @@ loop-rest-preserved c = λ n le.
     any_bound n m c.in_ok-rest.rest.now le small ∙ trailer_more m c.loop-rest.rest.now c.in_ok-rest.rest.now other c.in_ok-rest.ensures small ∙ c.loop-rest.invariant (suc m) (omega arith)
 
 pub returns : goal.returns
-returns c = sym (c.loop-rest.invariant (length c.loop-rest.rest.now) (omega arith)) ∙ trailer_end (length c.loop-rest.rest.now) c.loop-rest.rest.now (eq-eqb (length c.loop-rest.rest.now) 20 c.loop-rest-test.false)
+returns c =
+    sym (c.loop-rest.invariant (length c.loop-rest.rest.now) (omega arith))
+    ∙ trailer_end (length c.loop-rest.rest.now) c.loop-rest.rest.now (eq-eqb (length c.loop-rest.rest.now) 20 c.loop-rest-test.false)

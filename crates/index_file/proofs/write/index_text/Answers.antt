@@ -6,8 +6,10 @@ use Rattle.index_file.proofs.write.index_text.Goals as goal
 
 pub loop-entry-preserved : goal.loop-entry-preserved
 loop-entry-preserved c = record {
-  text = one_more_entry c.loop-entry.out.items c.put_entry.new.out.items c.args.entries.now c.loop-entry.entry-index c.entry-item.result c.loop-entry-test.true c.entry-item.is c.loop-entry.invariant.text c.in_ok-put_entry.ensures.text;
-  rows = one_more_row c.args.entries.now c.loop-entry.entry-index c.entry-item.result c.loop-entry-test.true c.entry-item.is c.loop-entry.invariant.rows c.in_ok-put_entry.ensures.row;
+  text =
+      one_more_entry c.loop-entry.out.items c.put_entry.new.out.items c.args.entries.now c.loop-entry.entry-index c.entry-item.result c.loop-entry-test.true c.entry-item.is c.loop-entry.invariant.text c.in_ok-put_entry.ensures.text;
+  rows =
+      one_more_row c.args.entries.now c.loop-entry.entry-index c.entry-item.result c.loop-entry-test.true c.entry-item.is c.loop-entry.invariant.rows c.in_ok-put_entry.ensures.row;
 }
 
 pub returns : goal.returns
@@ -17,5 +19,6 @@ returns c =
     let P : List ℕ → Type 0 = λ x. Spells c.args.entries.now x in
     record {
       text = text;
-      spells = subst P (sym text) (text_spells c.args.entries.now c.requires (all_rows_are c.args.entries.now c.loop-entry.entry-index c.loop-entry-test.false c.loop-entry.invariant.rows));
+      spells =
+          subst P (sym text) (text_spells c.args.entries.now c.requires (all_rows_are c.args.entries.now c.loop-entry.entry-index c.loop-entry-test.false c.loop-entry.invariant.rows));
     }

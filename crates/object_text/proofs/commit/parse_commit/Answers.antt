@@ -25,7 +25,8 @@ pub returns-else-count-gt16-clause-read : goal.returns-else-count-gt16-clause-re
 returns-else-count-gt16-clause-read c = read_whole IsCommit commit_from commit_reads c.args.bytes.now c.in-Ok.commit c.in-Ok.ensures
 
 pub returns-else-count-gt16-clause-value : goal.returns-else-count-gt16-clause-value
-returns-else-count-gt16-clause-value c = value_of c.in-Ok.commit c.args.bytes.now (read_whole IsCommit commit_from commit_reads c.args.bytes.now c.in-Ok.commit c.in-Ok.ensures).0
+returns-else-count-gt16-clause-value c =
+    value_of c.in-Ok.commit c.args.bytes.now (read_whole IsCommit commit_from commit_reads c.args.bytes.now c.in-Ok.commit c.in-Ok.ensures).0
 
 pub returns-in-Err-Stopped-clause-read : goal.returns-in-Err-Stopped-clause-read
 returns-in-Err-Stopped-clause-read c =

@@ -9,7 +9,9 @@ returns-in_err-line c =
     rw (p.1, p.2) (header_err c.args.behind c.args.bytes.now c.in_err-line.field-0.0 c.in_err-line.ensures.read)
 
 pub returns-then-is_empty : goal.returns-then-is_empty
-returns-then-is_empty c = header_empty c.args.behind c.args.bytes.now c.in_ok-line.line.now c.in_ok-line.rest.now c.in_ok-line.ensures.read (sym c.is_empty.ensures ∙ c.if-is_empty.true)
+returns-then-is_empty c =
+    header_empty c.args.behind c.args.bytes.now c.in_ok-line.line.now c.in_ok-line.rest.now c.in_ok-line.ensures.read (sym c.is_empty.ensures ∙ c.if-is_empty.true)
 
 pub returns : goal.returns
-returns c = header_ok c.args.behind c.args.bytes.now c.in_ok-line.line.now c.in_ok-line.rest.now c.in_ok-line.ensures.read (sym c.is_empty.ensures ∙ c.if-is_empty.false)
+returns c =
+    header_ok c.args.behind c.args.bytes.now c.in_ok-line.line.now c.in_ok-line.rest.now c.in_ok-line.ensures.read (sym c.is_empty.ensures ∙ c.if-is_empty.false)

@@ -6,4 +6,5 @@ use Rattle.object_text.proofs.ObjectLaws.{kind_read}
 use Rattle.object_text.proofs.object.kind_until.Goals as goal
 
 pub returns-in-None : goal.returns-in-None
-returns-in-None c = valued_of (may_of kinds) (value_of kinds) c.args.stop c.args.bytes.now c.in_ok-word.word.now c.in_ok-word.rest.now None c.in_ok-word.ensures.read (kind_read c.in_ok-word.word.now None c.in-None.ensures)
+returns-in-None c =
+    valued_of (may_of kinds) (value_of kinds) c.args.stop c.args.bytes.now c.in_ok-word.word.now c.in_ok-word.rest.now None c.in_ok-word.ensures.read (kind_read c.in_ok-word.word.now None c.in-None.ensures)

@@ -9,7 +9,8 @@ returns-in_err-size c =
     rw (p.1, p.2) (size_err c.args.bytes.now c.in_err-size.field-0.0 c.in_err-size.ensures)
 
 pub returns-then-found-size : goal.returns-then-found-size
-returns-then-found-size c = size_short c.args.bytes.now c.in_ok-size.content.now c.in_ok-size.size c.in_ok-size.ensures (let same = c.len_of-found.ensures.same in omega arith)
+returns-then-found-size c =
+    size_short c.args.bytes.now c.in_ok-size.content.now c.in_ok-size.size c.in_ok-size.ensures (let same = c.len_of-found.ensures.same in omega arith)
 
 pub returns-then-size-found : goal.returns-then-size-found
 returns-then-size-found c =

@@ -6,7 +6,8 @@ use Rattle.object_text.proofs.Entries.{TreeLoop, tree_none, tree_more, tree_err,
 use Rattle.object_text.proofs.tree.entries_of.Goals as goal
 
 pub loop-rest-init : goal.loop-rest-init
-loop-rest-init c = subst (λ (es : List TreeEntry). TreeLoop c.args.bytes.now es c.args.bytes.now) (sym c.new-entries.ensures.items) (tree_none c.args.bytes.now)
+loop-rest-init c =
+    subst (λ (es : List TreeEntry). TreeLoop c.args.bytes.now es c.args.bytes.now) (sym c.new-entries.ensures.items) (tree_none c.args.bytes.now)
 
 pub entry_of-requires : goal.entry_of-requires
 entry_of-requires c = subst (λ (es : List TreeEntry). IsTreeSoFar (reverse es)) (sym c.deref.ensures.value) c.loop-rest.invariant.good
@@ -28,4 +29,5 @@ returns-in-Err c =
     tree_err c.args.bytes.now c.loop-rest.entries.items c.loop-rest.rest.now c.in-Err.e (sym c.is_empty.ensures ∙ c.loop-rest-test.true) read c.loop-rest.invariant
 
 pub returns : goal.returns
-returns c = tree_done c.args.bytes.now c.loop-rest.entries.items c.loop-rest.rest.now (sym c.is_empty.ensures ∙ c.loop-rest-test.false) c.loop-rest.invariant
+returns c =
+    tree_done c.args.bytes.now c.loop-rest.entries.items c.loop-rest.rest.now (sym c.is_empty.ensures ∙ c.loop-rest-test.false) c.loop-rest.invariant

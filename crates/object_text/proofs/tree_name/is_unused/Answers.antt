@@ -8,7 +8,8 @@ use Rattle.object_text.specs.ReadTrees.{last_key, is_new, IsTreeSoFar}
 use Rattle.object_text.proofs.Names.{new_leaf}
 use Rattle.object_text.proofs.tree_name.is_unused.Goals as goal
 
-leaf : (earlier : List TreeEntry) (mode : Mode) (w : List ℕ) → IsTreeSoFar earlier → is_less (last_key earlier) (key mode w) ≡ true → (mode ≡ File) ⊎ ((mode ≡ Exec) ⊎ ((mode ≡ Link) ⊎ (mode ≡ Gitlink))) → true ≡ is_new earlier w
+leaf : (earlier : List TreeEntry) (mode : Mode) (w : List ℕ) → IsTreeSoFar earlier → is_less (last_key earlier) (key mode w) ≡ true
+    → (mode ≡ File) ⊎ ((mode ≡ Exec) ⊎ ((mode ≡ Link) ⊎ (mode ≡ Gitlink))) → true ≡ is_new earlier w
 leaf earlier mode w good after is = new_leaf earlier w good (ap (is_less (last_key earlier)) (sym (at is)) ∙ after)
   where
     at : (mode ≡ File) ⊎ ((mode ≡ Exec) ⊎ ((mode ≡ Link) ⊎ (mode ≡ Gitlink))) → key mode w ≡ w

@@ -7,4 +7,5 @@ use Rattle.object_text.proofs.tree_name.mode_of.Goals as goal
 
 pub returns-in-None : goal.returns-in-None
 unfolding mode_from
-returns-in-None c = valued_of (may_of modes) (value_of modes) 32 c.args.bytes.now c.in_ok-word.word.now c.in_ok-word.rest.now None c.in_ok-word.ensures.read (mode_read c.in_ok-word.word.now None c.in-None.ensures)
+returns-in-None c =
+    valued_of (may_of modes) (value_of modes) 32 c.args.bytes.now c.in_ok-word.word.now c.in_ok-word.rest.now None c.in_ok-word.ensures.read (mode_read c.in_ok-word.word.now None c.in-None.ensures)

@@ -6,7 +6,8 @@ use Rattle.object_text.specs.ReadTrees.{last_key, may_follow, may_name, name_val
 use Rattle.object_text.proofs.tree_name.name_of.Goals as goal
 
 -- what the test of a name tells
-told : (earlier : List TreeEntry) (last : List ℕ) (mode : Mode) (bytes w rest : List ℕ) (t : Bool) → last ≡ last_key earlier → span_at (may_name last) 0 bytes ≡ Ok (w, rest)
+told : (earlier : List TreeEntry) (last : List ℕ) (mode : Mode) (bytes w rest : List ℕ) (t : Bool) → last ≡ last_key earlier
+    → span_at (may_name last) 0 bytes ≡ Ok (w, rest)
     → t ≡ may_follow earlier mode w → name_from earlier mode bytes ≡ ended (cond t (Some w) None) rest
 unfolding name_from
 told earlier last mode bytes w rest t is read e =

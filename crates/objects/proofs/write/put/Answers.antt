@@ -26,10 +26,12 @@ returns-in-None-clause-put g c told =
     (c.in_ok-get.ensures.reads.0 told) id_is path (c.deref-in-None.ensures.value ∙ (c.in_ok-extend_from_slice-in-None.ensures.items ∙ text)) (c.put_text.ensures.put told))
 
 pub returns-in-None-clause-object : goal.returns-in-None-clause-object
-returns-in-None-clause-object g c told = new_object (g.S.Store.seen c.args.store.now).content (object_of c.args.kind c.args.bytes.now) c.put_text.result (g.S.Store.seen c.put_text.new.store).content (returns-in-None-clause-put g c told)
+returns-in-None-clause-object g c told =
+    new_object (g.S.Store.seen c.args.store.now).content (object_of c.args.kind c.args.bytes.now) c.put_text.result (g.S.Store.seen c.put_text.new.store).content (returns-in-None-clause-put g c told)
 
 pub returns-in-None-clause-elsewhere : goal.returns-in-None-clause-elsewhere
-returns-in-None-clause-elsewhere g c told = put_elsewhere (g.S.Store.seen c.args.store.now).content (object_of c.args.kind c.args.bytes.now) c.put_text.result (g.S.Store.seen c.put_text.new.store).content (returns-in-None-clause-put g c told)
+returns-in-None-clause-elsewhere g c told =
+    put_elsewhere (g.S.Store.seen c.args.store.now).content (object_of c.args.kind c.args.bytes.now) c.put_text.result (g.S.Store.seen c.put_text.new.store).content (returns-in-None-clause-put g c told)
 
 -- ---- bytes stood there
 
@@ -47,7 +49,8 @@ returns-then-is_same-clause-put g c told =
     put_same w o c.id_of_pieces-id.result c.in-Some.kept.items (g.S.Store.seen c.get.new.self).content id_is within held (sym same_test ∙ c.if-is_same.true) (c.in_ok-get.ensures.reads.0 told)
 
 pub returns-then-is_same-clause-object : goal.returns-then-is_same-clause-object
-returns-then-is_same-clause-object g c told = put_object_at (g.S.Store.seen c.args.store.now).content (object_of c.args.kind c.args.bytes.now) c.id_of_pieces-id.result (g.S.Store.seen c.get.new.self).content (returns-then-is_same-clause-put g c told)
+returns-then-is_same-clause-object g c told =
+    put_object_at (g.S.Store.seen c.args.store.now).content (object_of c.args.kind c.args.bytes.now) c.id_of_pieces-id.result (g.S.Store.seen c.get.new.self).content (returns-then-is_same-clause-put g c told)
 
 pub returns-clause-put : goal.returns-clause-put
 returns-clause-put g c told =

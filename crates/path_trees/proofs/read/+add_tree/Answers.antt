@@ -11,7 +11,8 @@ use Rattle.path_trees.proofs.Depth.{at_some, at_zero, file_first, folder_blames,
 use Rattle.path_trees.proofs.read.+add_tree.Goals as goal
 
 pub returns-then-depth-eq0-clause-fault : goal.returns-then-depth-eq0-clause-fault
-returns-then-depth-eq0-clause-fault g t c told = at_zero c.args.depth (g.S.Store.seen c.args.store.now).content c.args.folder.now c.args.id c.if-depth-eq0.true
+returns-then-depth-eq0-clause-fault g t c told =
+    at_zero c.args.depth (g.S.Store.seen c.args.store.now).content c.args.folder.now c.args.id c.if-depth-eq0.true
 
 pub returns-in_err-entries-clause-fault : goal.returns-in_err-entries-clause-fault
 returns-in_err-entries-clause-fault g t c told =
@@ -31,7 +32,8 @@ rows-init g t c =
     record {
       same = c.in_ok-entries.ensures.reads.0;
       deep = omega arith;
-      built = subst (λ (rows : Entries). HasBuilt g.S.Store.told c.args.folder.now (map_below (c.args.depth - 1) w) (map_below c.args.depth w c.args.folder.now c.args.id) c.args.out.now.items c.args.out.now.items rows) (sym left)
+      built =
+          subst (λ (rows : Entries). HasBuilt g.S.Store.told c.args.folder.now (map_below (c.args.depth - 1) w) (map_below c.args.depth w c.args.folder.now c.args.id) c.args.out.now.items c.args.out.now.items rows) (sym left)
           (build_starts g.S.Store.told c.args.folder.now (map_below (c.args.depth - 1) w) (map_below c.args.depth w c.args.folder.now c.args.id) c.args.out.now.items es c.in_ok-entries.ensures.order
           (λ told. at_some c.args.depth w c.args.folder.now c.args.id es (omega arith) (c.in_ok-entries.ensures.gives told) c.in_ok-rows.ensures.1));
       cause = c.in_ok-entries.ensures.reads.1;
@@ -61,7 +63,8 @@ rows-preserved-then-is_folder g t c =
     record {
       same = λ told. c.in_ok-add_tree.ensures.reads.0 told ∙ c.rows.invariant.same told;
       deep = c.rows.invariant.deep;
-      built = build_more g.S.Store.told c.args.folder.now sub total c.args.out.now.items c.rows.out.items c.add_tree.new.out.items x (reverse c.pop.new.self.items) adds.rows built adds.is_map (folder_under x adds.rows on c.bytes.ensures.path inside)
+      built =
+          build_more g.S.Store.told c.args.folder.now sub total c.args.out.now.items c.rows.out.items c.add_tree.new.out.items x (reverse c.pop.new.self.items) adds.rows built adds.is_map (folder_under x adds.rows on c.bytes.ensures.path inside)
           (λ told. sym (folder_first (c.args.depth - 1) w (g.S.Store.seen c.rows.store).content c.bytes.result.now x (c.rows.invariant.same told) c.bytes.ensures.same on) ∙ adds.read told) adds.added;
       cause = search rules;
     }
@@ -77,7 +80,8 @@ rows-preserved g t c =
     record {
       same = c.rows.invariant.same;
       deep = c.rows.invariant.deep;
-      built = build_more g.S.Store.told c.args.folder.now sub total c.args.out.now.items c.rows.out.items c.push.new.self.items x (reverse c.pop.new.self.items) (x ∷ []) built (file_map x off) (file_under x off) (λ told. file_first sub x off) c.in_ok-push.ensures.items;
+      built =
+          build_more g.S.Store.told c.args.folder.now sub total c.args.out.now.items c.rows.out.items c.push.new.self.items x (reverse c.pop.new.self.items) (x ∷ []) built (file_map x off) (file_under x off) (λ told. file_first sub x off) c.in_ok-push.ensures.items;
       cause = c.rows.invariant.cause;
     }
 

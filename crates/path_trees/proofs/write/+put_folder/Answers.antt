@@ -27,12 +27,14 @@ loop-rest-preserved-in-None g t c =
     c.loop-rest.invariant.way (first_and_others left x some c.row-item.is) path_is (sym c.in-None.ensures) in
     let items : c.push.new.self.items ≡ c.loop-rest.entries.items ++ record { mode = x.1.mode; name = path; id = x.1.id } ∷ [] = c.in_ok-push-in-None.ensures.items ∙ ap (λ (e : TreeEntry). c.loop-rest.entries.items ++ e ∷ []) c.in_ok-entry-in-None.ensures in
     record {
-      way = subst (λ (es : List TreeEntry). IsWay g.S.Store.told c.args.skip c.args.rows.now after es (g.S.Store.seen c.args.store.now).content (g.S.Store.seen c.loop-rest.store).content) (sym items) way;
+      way =
+          subst (λ (es : List TreeEntry). IsWay g.S.Store.told c.args.skip c.args.rows.now after es (g.S.Store.seen c.args.store.now).content (g.S.Store.seen c.loop-rest.store).content) (sym items) way;
       cause = c.loop-rest.invariant.cause;
     }
 
 -- the rows of the folder that is met, and the others
-met : (g : _) (t : ℕ) (c : After-split_at g t) → HasGroup (take c.in-Some.at (take (length c.bytes.result.now - c.args.skip) (drop c.args.skip c.bytes.result.now))) c.args.skip (c.args.skip + c.in-Some.at + 1) c.loop-rest.rest.now c.split_at.result.0.now c.split_at.result.1.now
+met : (g : _) (t : ℕ) (c : After-split_at g t)
+    → HasGroup (take c.in-Some.at (take (length c.bytes.result.now - c.args.skip) (drop c.args.skip c.bytes.result.now))) c.args.skip (c.args.skip + c.in-Some.at + 1) c.loop-rest.rest.now c.split_at.result.0.now c.split_at.result.1.now
 met g t c =
     let left = c.loop-rest.rest.now in
     let x = c.row-item.result in
@@ -58,22 +60,28 @@ returns-in_err-id-in-Some-clause-put g t c told =
     c.loop-rest.invariant.way (met g t (goal.at.returns-in_err-id-in-Some-clause-put g t c).After-split_at) told (c.in_err-id-in-Some.ensures.put told))
 
 pub returns-in_err-id-in-Some-clause-keeps : goal.returns-in_err-id-in-Some-clause-keeps
-returns-in_err-id-in-Some-clause-keeps g t c told path text there = c.in_err-id-in-Some.ensures.keeps told path text (c.loop-rest.invariant.way.keeps told path text there)
+returns-in_err-id-in-Some-clause-keeps g t c told path text there =
+    c.in_err-id-in-Some.ensures.keeps told path text (c.loop-rest.invariant.way.keeps told path text there)
 
 pub returns-in_err-id-in-Some-clause-elsewhere : goal.returns-in_err-id-in-Some-clause-elsewhere
-returns-in_err-id-in-Some-clause-elsewhere g t c told path other = c.in_err-id-in-Some.ensures.elsewhere told path other ∙ c.loop-rest.invariant.way.stays told path other
+returns-in_err-id-in-Some-clause-elsewhere g t c told path other =
+    c.in_err-id-in-Some.ensures.elsewhere told path other ∙ c.loop-rest.invariant.way.stays told path other
 
 pub returns-in_err-entry-in-Some-clause-keeps : goal.returns-in_err-entry-in-Some-clause-keeps
-returns-in_err-entry-in-Some-clause-keeps g t c told path text there = c.in_ok-id-in-Some.ensures.keeps told path text (c.loop-rest.invariant.way.keeps told path text there)
+returns-in_err-entry-in-Some-clause-keeps g t c told path text there =
+    c.in_ok-id-in-Some.ensures.keeps told path text (c.loop-rest.invariant.way.keeps told path text there)
 
 pub returns-in_err-entry-in-Some-clause-elsewhere : goal.returns-in_err-entry-in-Some-clause-elsewhere
-returns-in_err-entry-in-Some-clause-elsewhere g t c told path other = c.in_ok-id-in-Some.ensures.elsewhere told path other ∙ c.loop-rest.invariant.way.stays told path other
+returns-in_err-entry-in-Some-clause-elsewhere g t c told path other =
+    c.in_ok-id-in-Some.ensures.elsewhere told path other ∙ c.loop-rest.invariant.way.stays told path other
 
 pub returns-in_err-push-in-Some-clause-keeps : goal.returns-in_err-push-in-Some-clause-keeps
-returns-in_err-push-in-Some-clause-keeps g t c told path text there = c.in_ok-id-in-Some.ensures.keeps told path text (c.loop-rest.invariant.way.keeps told path text there)
+returns-in_err-push-in-Some-clause-keeps g t c told path text there =
+    c.in_ok-id-in-Some.ensures.keeps told path text (c.loop-rest.invariant.way.keeps told path text there)
 
 pub returns-in_err-push-in-Some-clause-elsewhere : goal.returns-in_err-push-in-Some-clause-elsewhere
-returns-in_err-push-in-Some-clause-elsewhere g t c told path other = c.in_ok-id-in-Some.ensures.elsewhere told path other ∙ c.loop-rest.invariant.way.stays told path other
+returns-in_err-push-in-Some-clause-elsewhere g t c told path other =
+    c.in_ok-id-in-Some.ensures.elsewhere told path other ∙ c.loop-rest.invariant.way.stays told path other
 
 pub loop-rest-smaller : goal.loop-rest-smaller
 loop-rest-smaller g t c = (met g t (goal.at.loop-rest-smaller g t c).After-split_at).fewer
@@ -88,12 +96,14 @@ loop-rest-preserved g t c =
     let way = way_folder g.S.Store.told c.args.skip (c.args.skip + c.in-Some.at + 1) c.args.rows.now c.loop-rest.rest.now c.split_at.result.0.now c.split_at.result.1.now name id c.loop-rest.entries.items (g.S.Store.seen c.args.store.now).content (g.S.Store.seen c.loop-rest.store).content new
     c.loop-rest.invariant.way (met g t (goal.at.loop-rest-preserved g t c).After-split_at) c.in_ok-id-in-Some.ensures.root c.in_ok-id-in-Some.ensures.elsewhere c.in_ok-id-in-Some.ensures.keeps c.in_ok-id-in-Some.ensures.ids c.in_ok-id-in-Some.ensures.put in
     record {
-      way = subst (λ (es : List TreeEntry). IsWay g.S.Store.told c.args.skip c.args.rows.now c.split_at.result.1.now es (g.S.Store.seen c.args.store.now).content new) (sym items) way;
+      way =
+          subst (λ (es : List TreeEntry). IsWay g.S.Store.told c.args.skip c.args.rows.now c.split_at.result.1.now es (g.S.Store.seen c.args.store.now).content new) (sym items) way;
       cause = search rules;
     }
 
 -- nothing is left
-over : (g : _) (t : ℕ) (c : In_default g t) → IsWay g.S.Store.told c.args.skip c.args.rows.now [] c.loop-rest.entries.items (g.S.Store.seen c.args.store.now).content (g.S.Store.seen c.loop-rest.store).content
+over : (g : _) (t : ℕ) (c : In_default g t)
+    → IsWay g.S.Store.told c.args.skip c.args.rows.now [] c.loop-rest.entries.items (g.S.Store.seen c.args.store.now).content (g.S.Store.seen c.loop-rest.store).content
 over g t c =
     let none : length c.loop-rest.rest.now ≡ 0 = omega arith in
     subst (λ (left : Entries). IsWay g.S.Store.told c.args.skip c.args.rows.now left c.loop-rest.entries.items (g.S.Store.seen c.args.store.now).content (g.S.Store.seen c.loop-rest.store).content) (nothing c.loop-rest.rest.now none) c.loop-rest.invariant.way

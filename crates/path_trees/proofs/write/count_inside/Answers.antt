@@ -18,6 +18,7 @@ loop-rest-preserved c =
     let more = counts c.args.folder.now c.args.skip c.loop-rest.rest.now c.row-item.result some c.row-item.is (sym inside) in
     record {
       total = omega (arith, c.loop-rest.invariant.total, more);
-      long = (all_behind c.args.folder.now c.args.skip c.loop-rest.rest.now c.row-item.result some c.row-item.is (λ (e : List ℕ × Entry). c.args.skip ≤ length e.0) c.loop-rest.invariant.long).1;
+      long =
+          (all_behind c.args.folder.now c.args.skip c.loop-rest.rest.now c.row-item.result some c.row-item.is (λ (e : List ℕ × Entry). c.args.skip ≤ length e.0) c.loop-rest.invariant.long).1;
       room = search rules;
     }

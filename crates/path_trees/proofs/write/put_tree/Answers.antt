@@ -19,7 +19,8 @@ pub returns-in-Ok-clause-keeps : goal.returns-in-Ok-clause-keeps
 returns-in-Ok-clause-keeps g c told = put_keeps _ (record { kind = Tree; bytes = c.deref.result.now }) (Ok c.in-Ok.id) _ (c.in-Ok.ensures.put told)
 
 pub returns-in-Ok-clause-elsewhere : goal.returns-in-Ok-clause-elsewhere
-returns-in-Ok-clause-elsewhere g c told path other = c.in-Ok.ensures.elsewhere told path (away path (record { kind = Tree; bytes = c.deref.result.now }) other)
+returns-in-Ok-clause-elsewhere g c told path other =
+    c.in-Ok.ensures.elsewhere told path (away path (record { kind = Tree; bytes = c.deref.result.now }) other)
 
 pub returns-clause-put : goal.returns-clause-put
 returns-clause-put g c told =
@@ -32,4 +33,5 @@ pub returns-clause-keeps : goal.returns-clause-keeps
 returns-clause-keeps g c told = put_keeps _ (record { kind = Tree; bytes = c.deref.result.now }) (Err c.in-Err.fault) _ (c.in-Err.ensures.put told)
 
 pub returns-clause-elsewhere : goal.returns-clause-elsewhere
-returns-clause-elsewhere g c told path other = c.in-Err.ensures.elsewhere told path (away path (record { kind = Tree; bytes = c.deref.result.now }) other)
+returns-clause-elsewhere g c told path other =
+    c.in-Err.ensures.elsewhere told path (away path (record { kind = Tree; bytes = c.deref.result.now }) other)

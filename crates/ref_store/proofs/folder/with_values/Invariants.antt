@@ -10,7 +10,8 @@ use Rattle.ref_store.proofs.folder.with_values.Given as goal
 abbrev pub invariant-loop-rest : goal.invariant-loop-rest
 invariant-loop-rest g l = record {
   names : AllByRecursion IsRefName l.rest;
-  rest : g.S.Store.told → with_values (g.S.Store.seen l.fn.store).content l.packed l.refs.entries l.rest ≡ with_values (g.S.Store.seen l.fn.store).content l.packed l.fn.refs.entries l.names;
+  rest : g.S.Store.told
+      → with_values (g.S.Store.seen l.fn.store).content l.packed l.refs.entries l.rest ≡ with_values (g.S.Store.seen l.fn.store).content l.packed l.fn.refs.entries l.names;
   same : g.S.Store.told → (g.S.Store.seen l.store).content ≡ (g.S.Store.seen l.fn.store).content;
   cause : HasReadCause g.S.Store.told ByNone (g.S.Store.seen l.fn.store) (g.S.Store.seen l.store);
 }

@@ -16,7 +16,9 @@ loop-rest-preserved c =
     subst (λ (lines : List LogLine). LogLoop c.args.text.now lines c.in-Ok.after.now) (sym c.in_ok-push-in-Ok.ensures.items) more
 
 pub returns-in-Err : goal.returns-in-Err
-returns-in-Err c = log_err c.args.text.now c.loop-rest.lines.items c.loop-rest.rest.now c.in-Err.e (sym c.is_empty.ensures ∙ c.loop-rest-test.true) c.in-Err.ensures.read c.loop-rest.invariant
+returns-in-Err c =
+    log_err c.args.text.now c.loop-rest.lines.items c.loop-rest.rest.now c.in-Err.e (sym c.is_empty.ensures ∙ c.loop-rest-test.true) c.in-Err.ensures.read c.loop-rest.invariant
 
 pub returns : goal.returns
-returns c = log_done c.args.text.now c.loop-rest.lines.items c.loop-rest.rest.now (sym c.is_empty.ensures ∙ c.loop-rest-test.false) c.loop-rest.invariant
+returns c =
+    log_done c.args.text.now c.loop-rest.lines.items c.loop-rest.rest.now (sym c.is_empty.ensures ∙ c.loop-rest-test.false) c.loop-rest.invariant

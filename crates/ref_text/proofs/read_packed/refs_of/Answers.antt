@@ -21,7 +21,9 @@ loop-rest-preserved c =
     (sym (ap (with_line c.loop-rest.refs.items) c.in_default.is)) c.is_some-after.ensures c.loop-rest.invariant
 
 pub returns-in-Err : goal.returns-in-Err
-returns-in-Err c = packed_err c.args.text.now c.loop-rest.refs.items c.loop-rest.after c.loop-rest.rest.now c.in-Err.e (sym c.is_empty.ensures ∙ c.loop-rest-test.true) c.in-Err.ensures c.loop-rest.invariant
+returns-in-Err c =
+    packed_err c.args.text.now c.loop-rest.refs.items c.loop-rest.after c.loop-rest.rest.now c.in-Err.e (sym c.is_empty.ensures ∙ c.loop-rest-test.true) c.in-Err.ensures c.loop-rest.invariant
 
 pub returns : goal.returns
-returns c = packed_done c.args.text.now c.loop-rest.refs.items c.loop-rest.after c.loop-rest.rest.now (sym c.is_empty.ensures ∙ c.loop-rest-test.false) c.loop-rest.invariant
+returns c =
+    packed_done c.args.text.now c.loop-rest.refs.items c.loop-rest.after c.loop-rest.rest.now (sym c.is_empty.ensures ∙ c.loop-rest-test.false) c.loop-rest.invariant

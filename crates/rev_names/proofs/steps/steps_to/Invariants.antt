@@ -7,7 +7,8 @@ use Rattle.rev_names.proofs.steps.steps_to.Given as goal
 -- the steps that are left lead from here to where all led from the start
 abbrev pub invariant-loop-rest : goal.invariant-loop-rest
 invariant-loop-rest g l = record {
-  left : g.S.Store.told → steps_to (g.S.Store.seen l.fn.store).content l.found l.rest ≡ steps_to (g.S.Store.seen l.fn.store).content l.fn.from l.steps;
+  left : g.S.Store.told
+      → steps_to (g.S.Store.seen l.fn.store).content l.found l.rest ≡ steps_to (g.S.Store.seen l.fn.store).content l.fn.from l.steps;
   same : g.S.Store.told → (g.S.Store.seen l.store).content ≡ (g.S.Store.seen l.fn.store).content;
   cause : HasReadCause g.S.Store.told ByNone (g.S.Store.seen l.fn.store) (g.S.Store.seen l.store);
 }

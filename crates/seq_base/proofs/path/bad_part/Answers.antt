@@ -7,7 +7,8 @@ pub loop-i-init : goal.loop-i-init
 loop-i-init c = met_none c.args.bytes.now
 
 pub returns-then-not-is_good_part : goal.returns-then-not-is_good_part
-returns-then-not-is_good_part c = sym (met_bad c.args.bytes.now c.loop-i.start c.loop-i.i c.loop-i-test.true c.if-b-eq47.true (sym c.is_good_part.ensures ∙ c.if-not-is_good_part.true) c.loop-i.invariant)
+returns-then-not-is_good_part c =
+    sym (met_bad c.args.bytes.now c.loop-i.start c.loop-i.i c.loop-i-test.true c.if-b-eq47.true (sym c.is_good_part.ensures ∙ c.if-not-is_good_part.true) c.loop-i.invariant)
 
 pub loop-i-preserved : goal.loop-i-preserved
 loop-i-preserved c =

@@ -6,4 +6,5 @@ use Rattle.seq_base.proofs.ref_name.has_ref_parts.Goals as goal
 use borrow.Author.Tests.{tests}
 
 pub returns : goal.returns
-returns c = all_from_yields_List is_ref_part _ _ _ c.all.ensures.ran (YieldsList-from_slice_split _ _ c.args.name.now c.split.ensures.rest c.split.ensures.done c.split.ensures.closure (λ x r q k. search (rules, tests))) (λ x b q k. search (rules, tests))
+returns c =
+    all_from_yields_List is_ref_part _ _ _ c.all.ensures.ran (YieldsList-from_slice_split _ _ c.args.name.now c.split.ensures.rest c.split.ensures.done c.split.ensures.closure (λ x r q k. search (rules, tests))) (λ x b q k. search (rules, tests))

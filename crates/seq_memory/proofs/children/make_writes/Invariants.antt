@@ -9,9 +9,11 @@ use Rattle.seq_memory.proofs.children.make_writes.Given as goal
 abbrev pub invariant-loop-rest : goal.invariant-loop-rest
 invariant-loop-rest g l = record {
   store_paths : AllByRecursion (λ change. IsStorePath change.0) l.rest;
-  exact : g.S.Store.told → HasNoFault (g.S.Store.seen l.fn.store) (g.S.Store.seen l.store) → written (g.S.Store.seen l.store).content l.rest ≡ written (g.S.Store.seen l.fn.store).content l.fn.writes;
+  exact : g.S.Store.told → HasNoFault (g.S.Store.seen l.fn.store) (g.S.Store.seen l.store)
+      → written (g.S.Store.seen l.store).content l.rest ≡ written (g.S.Store.seen l.fn.store).content l.fn.writes;
   elsewhere : g.S.Store.told → (path : List ℕ) → is_written l.fn.writes path ≡ false → is_written l.rest path ≡ false;
-  same : g.S.Store.told → (path : List ℕ) → is_written l.fn.writes path ≡ false → map.get (g.S.Store.seen l.store).content path ≡ map.get (g.S.Store.seen l.fn.store).content path;
+  same : g.S.Store.told → (path : List ℕ) → is_written l.fn.writes path ≡ false
+      → map.get (g.S.Store.seen l.store).content path ≡ map.get (g.S.Store.seen l.fn.store).content path;
   store : Goes g.S.Store.told (g.S.Store.seen l.fn.store) (g.S.Store.seen l.store);
 }
 

@@ -15,7 +15,8 @@ pub returns-clause-front : goal.returns-clause-front
 returns-clause-front g c told w objects = others_part_front w c.args.slots.now c.requires _ objects _ (c.make_part.ensures.front told)
 
 pub returns-clause-free : goal.returns-clause-free
-returns-clause-free g c told w objects free blocked = c.make_part.ensures.free told (others_part_free w c.args.slots.now c.requires _ objects free) blocked
+returns-clause-free g c told w objects free blocked =
+    c.make_part.ensures.free told (others_part_free w c.args.slots.now c.requires _ objects free) blocked
 
 pub returns-clause-done : goal.returns-clause-done
 returns-clause-done g c told w objects =

@@ -12,7 +12,8 @@ pub loop-rest-preserved : goal.loop-rest-preserved
 loop-rest-preserved g c =
     let some : 0 < length c.loop-rest.rest.now = omega arith in
     record {
-      way = λ told. slot_made c.args.of_objects _ _ _ _ c.loop-rest.rest.now c.slot-item.result (c.loop-rest.invariant.way told) some c.slot-item.is _ (c.in_ok-make_chosen.ensures.leaves told);
+      way =
+          λ told. slot_made c.args.of_objects _ _ _ _ c.loop-rest.rest.now c.slot-item.result (c.loop-rest.invariant.way told) some c.slot-item.is _ (c.in_ok-make_chosen.ensures.leaves told);
       paths = (slot_path c.loop-rest.rest.now c.slot-item.result some c.slot-item.is c.loop-rest.invariant.paths).1;
       cause = search rules;
     }

@@ -9,7 +9,8 @@ use Rattle.seq_outside.proofs.write.make_part.Given as goal
 
 abbrev pub invariant-loop-rest : goal.invariant-loop-rest
 invariant-loop-rest g l = record {
-  way : g.S.Store.told → Way (g.S.Store.seen l.fn.store).content (g.S.Store.seen l.store).content (all_chosen l.of_objects l.slots) (all_chosen l.of_objects l.rest);
+  way : g.S.Store.told
+      → Way (g.S.Store.seen l.fn.store).content (g.S.Store.seen l.store).content (all_chosen l.of_objects l.slots) (all_chosen l.of_objects l.rest);
   paths : AllByRecursion HasStorePath (kept l.rest);
   cause : HasCause g.S.Store.told ByNone (g.S.Store.seen l.fn.store) (g.S.Store.seen l.store);
 }

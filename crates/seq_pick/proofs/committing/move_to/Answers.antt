@@ -9,7 +9,8 @@ use Rattle.seq_pick.proofs.Lines.{line_is_value}
 use Rattle.seq_pick.proofs.committing.move_to.Goals as goal
 
 pub put_head-requires-clause-line : goal.put_head-requires-clause-line
-put_head-requires-clause-line g c = subst IsLogValue (sym c.in_ok-line.ensures) (line_is_value c.args.head c.args.id c.args.ident.now _ c.requires.who)
+put_head-requires-clause-line g c =
+    subst IsLogValue (sym c.in_ok-line.ensures) (line_is_value c.args.head c.args.id c.args.ident.now _ c.requires.who)
 
 pub returns-clause-turns : goal.returns-clause-turns
 returns-clause-turns g c told =

@@ -10,7 +10,8 @@ use Rattle.seq_pick.proofs.unbuilt.refuse_any.Given as goal
 abbrev pub invariant-loop-rest : goal.invariant-loop-rest
 invariant-loop-rest g l = record {
   paths : AllByRecursion (λ path. IsStorePath path.now) l.rest;
-  rest : g.S.Store.told → lacks_all (g.S.Store.seen l.fn.store).content (map (λ path. path.now) l.rest) ≡ lacks_all (g.S.Store.seen l.fn.store).content (map (λ path. path.now) l.paths);
+  rest : g.S.Store.told
+      → lacks_all (g.S.Store.seen l.fn.store).content (map (λ path. path.now) l.rest) ≡ lacks_all (g.S.Store.seen l.fn.store).content (map (λ path. path.now) l.paths);
   same : g.S.Store.told → (g.S.Store.seen l.store).content ≡ (g.S.Store.seen l.fn.store).content;
   cause : HasReadCause g.S.Store.told ByNone (g.S.Store.seen l.fn.store) (g.S.Store.seen l.store);
 }

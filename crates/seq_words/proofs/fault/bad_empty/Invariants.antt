@@ -4,7 +4,8 @@ use Rattle.seq_model.specs.Faults.{empty_named}
 use Rattle.seq_words.proofs.fault.bad_empty.Given as goal
 
 abbrev pub invariant-loop-rest : goal.invariant-loop-rest
-invariant-loop-rest l = find (λ word. not (is_some (empty_named word))) (map (λ word. word.now) l.rest) ≡ find (λ word. not (is_some (empty_named word))) (map (λ word. word.now) l.words)
+invariant-loop-rest l =
+    find (λ word. not (is_some (empty_named word))) (map (λ word. word.now) l.rest) ≡ find (λ word. not (is_some (empty_named word))) (map (λ word. word.now) l.words)
 
 abbrev pub decreases-loop-rest : goal.decreases-loop-rest
 decreases-loop-rest l = length l.rest

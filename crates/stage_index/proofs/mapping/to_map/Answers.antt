@@ -10,8 +10,10 @@ pub loop-rest-preserved : goal.loop-rest-preserved
 loop-rest-preserved c =
     let some : 0 < length c.loop-rest.rest.now = omega arith in
     record {
-      so_far = joined_at c.loop-rest.map c.in_ok-map.map c.args.entries.now c.loop-rest.rest.now c.entry-item.result c.loop-rest.invariant.so_far some c.entry-item.is c.in_ok-map.ensures;
-      files = (subst (AllByRecursion (λ e. e.mode ≡ Folder → ⊥)) (first_and_others c.loop-rest.rest.now c.entry-item.result some c.entry-item.is) c.loop-rest.invariant.files).1;
+      so_far =
+          joined_at c.loop-rest.map c.in_ok-map.map c.args.entries.now c.loop-rest.rest.now c.entry-item.result c.loop-rest.invariant.so_far some c.entry-item.is c.in_ok-map.ensures;
+      files =
+          (subst (AllByRecursion (λ e. e.mode ≡ Folder → ⊥)) (first_and_others c.loop-rest.rest.now c.entry-item.result some c.entry-item.is) c.loop-rest.invariant.files).1;
     }
 
 pub with_entry-requires : goal.with_entry-requires
@@ -29,4 +31,5 @@ pub returns-clause-gives : goal.returns-clause-gives
 returns-clause-gives c = all_joined c.loop-rest.map c.args.entries.now c.loop-rest.rest.now c.loop-rest.invariant.so_far (omega arith)
 
 pub returns-clause-map : goal.returns-clause-map
-returns-clause-map c order = in_order_map c.args.entries.now c.loop-rest.map order (all_joined c.loop-rest.map c.args.entries.now c.loop-rest.rest.now c.loop-rest.invariant.so_far (omega arith))
+returns-clause-map c order =
+    in_order_map c.args.entries.now c.loop-rest.map order (all_joined c.loop-rest.map c.args.entries.now c.loop-rest.rest.now c.loop-rest.invariant.so_far (omega arith))

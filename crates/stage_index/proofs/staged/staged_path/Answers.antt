@@ -21,7 +21,9 @@ loop-rest-preserved-in_default-difference c =
     goes_on_at c.args.index.now c.args.head.now c.loop-rest.rest.now c.entry-item.result c.loop-rest.n (c.in-Some.path.now, c.in-Some.kept) c.loop-rest.invariant some c.entry-item.is (eq-eqb _ 0 c.if-entry-eq0.true) c.in-Some.ensures (sym c.in_default-difference.ensures)
 
 pub returns-in-Some-at : goal.returns-in-Some-at
-returns-in-Some-at c = left_at c.args.index.now c.args.head.now c.loop-rest.rest.now c.loop-rest.n _ c.loop-rest.invariant (omega arith) c.in-Some-at.ensures
+returns-in-Some-at c =
+    left_at c.args.index.now c.args.head.now c.loop-rest.rest.now c.loop-rest.n _ c.loop-rest.invariant (omega arith) c.in-Some-at.ensures
 
 pub returns-in-None : goal.returns-in-None
-returns-in-None c = none_left c.args.index.now c.args.head.now c.loop-rest.rest.now c.loop-rest.n c.loop-rest.invariant (omega arith) c.in-None.ensures
+returns-in-None c =
+    none_left c.args.index.now c.args.head.now c.loop-rest.rest.now c.loop-rest.n c.loop-rest.invariant (omega arith) c.in-None.ensures

@@ -11,7 +11,8 @@ pub returns-in-Some-clause-err : goal.returns-in-Some-clause-err
 returns-in-Some-clause-err c = blamed c.args.graph.now c.args.range.now c.in-Some.fault (sym c.in-Some.ensures)
 
 pub returns-in-Ok-clause-commits : goal.returns-in-Ok-clause-commits
-returns-in-Ok-clause-commits c = ap revs_of c.in-Ok.ensures ∙ merges_about c.args.graph.now c.args.base c.args.range.now c.requires (sym c.first_fault.ensures ∙ c.in_default.is)
+returns-in-Ok-clause-commits c =
+    ap revs_of c.in-Ok.ensures ∙ merges_about c.args.graph.now c.args.base c.args.range.now c.requires (sym c.first_fault.ensures ∙ c.in_default.is)
 
 pub returns-in-Ok-clause-stands : goal.returns-in-Ok-clause-stands
 returns-in-Ok-clause-stands c = λ names reads.

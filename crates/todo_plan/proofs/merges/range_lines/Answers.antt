@@ -17,7 +17,8 @@ loop-id-preserved c =
     let numbers : Numbers = λ other. get (slice_cmp nat_cmp) c.loop-id.numbers other in
     let left = drop (c.loop-id.id-index + 1) c.args.range.now in
     record {
-      counts = subst (λ (n : ℕ). n ≤ c.loop-id.id-index + 1) (sym c.counted-count.ensures) (counts c.contains-is_wanted.result c.loop-id.count c.loop-id.id-index c.loop-id.invariant.counts);
+      counts =
+          subst (λ (n : ℕ). n ≤ c.loop-id.id-index + 1) (sym c.counted-count.ensures) (counts c.contains-is_wanted.result c.loop-id.count c.loop-id.id-index c.loop-id.invariant.counts);
       lines_are =
           one_commit graph c.args.base c.args.ids.now numbers (λ other. get (slice_cmp nat_cmp) c.note_number.new.numbers other) c.loop-id.count c.counted-count.result c.loop-id.place c.id-item.result left c.contains-is_wanted.result
           c.loop-id.lines.items c.push_commit.new.lines.items c.push_label.new.lines.items

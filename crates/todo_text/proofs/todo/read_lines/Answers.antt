@@ -28,4 +28,5 @@ loop-rest-preserved c = record {
 }
 
 pub returns : goal.returns
-returns c = read_all c.loop-rest.has_earlier c.loop-rest.number c.loop-rest.read.items c.loop-rest.rest.now _ c.loop-rest.invariant.reads (eqb-true _ _ (sym c.is_empty.ensures ∙ c.loop-rest-test.false))
+returns c =
+    read_all c.loop-rest.has_earlier c.loop-rest.number c.loop-rest.read.items c.loop-rest.rest.now _ c.loop-rest.invariant.reads (eqb-true _ _ (sym c.is_empty.ensures ∙ c.loop-rest-test.false))

@@ -31,14 +31,20 @@ loop-j-preserved c =
       | then-is_row_under w ↦
           let hit : is_under u row ≡ true = sym c.is_row_under.ensures ∙ w.if-is_row_under.true in
           record {
-            found = w.found-is ∙ sym (more ∙ ap (λ (b : Bool). list_any (is_under u) (take j rows) || b) hit ∙ sym (or_true (list_any (is_under u) (take j rows))));
-            lowers = λ k d l. rw w.lowers-is (marks_set c.args.lowers.now c.loop-j.lowers (λ (i : ℕ). is_under u (get_or rows i d)) j (length rows) (omega (arith, c.requires.marks)) c.loop-j-test.true (ap (is_under u) (sym (at_j d)) ∙ hit) (λ i m. c.loop-j.invariant.lowers i d m) k l);
+            found =
+                w.found-is
+                ∙ sym (more ∙ ap (λ (b : Bool). list_any (is_under u) (take j rows) || b) hit ∙ sym (or_true (list_any (is_under u) (take j rows))));
+            lowers =
+                λ k d l. rw w.lowers-is (marks_set c.args.lowers.now c.loop-j.lowers (λ (i : ℕ). is_under u (get_or rows i d)) j (length rows) (omega (arith, c.requires.marks)) c.loop-j-test.true (ap (is_under u) (sym (at_j d)) ∙ hit) (λ i m. c.loop-j.invariant.lowers i d m) k l);
           }
       | else-is_row_under w ↦
           let miss : is_under u row ≡ false = sym c.is_row_under.ensures ∙ w.if-is_row_under.false in
           record {
-            found = w.found-is ∙ c.loop-j.invariant.found ∙ or_false (list_any (is_under u) (take j rows)) ∙ sym (more ∙ ap (λ (b : Bool). list_any (is_under u) (take j rows) || b) miss);
-            lowers = λ k d l. rw w.lowers-is (marks_kept (get_or c.args.lowers.now k false) (get_or c.loop-j.lowers k false) (is_under u (get_or rows k d)) k j (c.loop-j.invariant.lowers k d l) (λ same. ap (λ (i : ℕ). is_under u (get_or rows i d)) same ∙ ap (is_under u) (sym (at_j d)) ∙ miss));
+            found =
+                w.found-is ∙ c.loop-j.invariant.found ∙ or_false (list_any (is_under u) (take j rows))
+                ∙ sym (more ∙ ap (λ (b : Bool). list_any (is_under u) (take j rows) || b) miss);
+            lowers =
+                λ k d l. rw w.lowers-is (marks_kept (get_or c.args.lowers.now k false) (get_or c.loop-j.lowers k false) (is_under u (get_or rows k d)) k j (c.loop-j.invariant.lowers k d l) (λ same. ap (λ (i : ℕ). is_under u (get_or rows i d)) same ∙ ap (is_under u) (sym (at_j d)) ∙ miss));
           }
     ]
 

@@ -16,7 +16,8 @@ loop-path-preserved-in_ok-push c =
     let s = step c.loop-path.base_left c.loop-path.ours_left c.loop-path.theirs_left c.in-Some.path.now c.loop-path.invariant.order (sym c.in-Some.ensures) in
     let made : taken (choice (head_entry c.loop-path.base_left c.in-Some.path.now) (head_entry c.loop-path.ours_left c.in-Some.path.now) (head_entry c.loop-path.theirs_left c.in-Some.path.now)) ≡ Some c.in-Some-taken_entry.entry = cc (c.in-Some-taken_entry.ensures, c.choose.ensures, c.take-before.ensures.entry, c.take-mine.ensures.entry, c.take-other.ensures.entry) in
     record {
-      entries = rw (c.in_ok-push.ensures.items, c.in_ok-copy_of.ensures, c.take-before.ensures.rest, c.take-mine.ensures.rest, c.take-other.ensures.rest) (one_taken c.loop-path.entries.items _ _ _ _ _ _ c.loop-path.invariant.entries (result_step _ _ _ _ s) made);
+      entries =
+          rw (c.in_ok-push.ensures.items, c.in_ok-copy_of.ensures, c.take-before.ensures.rest, c.take-mine.ensures.rest, c.take-other.ensures.rest) (one_taken c.loop-path.entries.items _ _ _ _ _ _ c.loop-path.invariant.entries (result_step _ _ _ _ s) made);
       order = rw (c.take-before.ensures.rest, c.take-mine.ensures.rest, c.take-other.ensures.rest) s.order;
     }
 
@@ -25,7 +26,8 @@ loop-path-preserved c =
     let s = step c.loop-path.base_left c.loop-path.ours_left c.loop-path.theirs_left c.in-Some.path.now c.loop-path.invariant.order (sym c.in-Some.ensures) in
     let made : taken (choice (head_entry c.loop-path.base_left c.in-Some.path.now) (head_entry c.loop-path.ours_left c.in-Some.path.now) (head_entry c.loop-path.theirs_left c.in-Some.path.now)) ≡ None = cc (c.in_default-taken_entry.ensures, c.choose.ensures, c.take-before.ensures.entry, c.take-mine.ensures.entry, c.take-other.ensures.entry) in
     record {
-      entries = rw (c.take-before.ensures.rest, c.take-mine.ensures.rest, c.take-other.ensures.rest) (none_taken c.loop-path.entries.items _ _ _ _ _ c.loop-path.invariant.entries (result_step _ _ _ _ s) made);
+      entries =
+          rw (c.take-before.ensures.rest, c.take-mine.ensures.rest, c.take-other.ensures.rest) (none_taken c.loop-path.entries.items _ _ _ _ _ c.loop-path.invariant.entries (result_step _ _ _ _ s) made);
       order = rw (c.take-before.ensures.rest, c.take-mine.ensures.rest, c.take-other.ensures.rest) s.order;
     }
 

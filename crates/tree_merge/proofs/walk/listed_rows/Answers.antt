@@ -17,7 +17,8 @@ loop-path-preserved-in_ok-push c =
     let s = step c.loop-path.base_left c.loop-path.ours_left c.loop-path.theirs_left c.in-Some.path.now c.loop-path.invariant.order (sym c.in-Some.ensures) in
     let made : c.row-row.result ≡ row_of c.in-Some.path.now (head_entry c.loop-path.base_left c.in-Some.path.now) (head_entry c.loop-path.ours_left c.in-Some.path.now) (head_entry c.loop-path.theirs_left c.in-Some.path.now) = cc (c.row-row.ensures, c.in_ok-copy_of.ensures, c.take.ensures.entry, c.take-in-Some.ensures.entry, c.take-in-Some-2.ensures.entry) in
     record {
-      rows = rw (c.in_ok-push.ensures.items, c.take.ensures.rest, c.take-in-Some.ensures.rest, c.take-in-Some-2.ensures.rest) (kept c.loop-path.rows.items _ _ _ _ _ c.loop-path.invariant.rows s.rows made (sym c.is_row_listed.ensures ∙ c.if-is_row_listed.true));
+      rows =
+          rw (c.in_ok-push.ensures.items, c.take.ensures.rest, c.take-in-Some.ensures.rest, c.take-in-Some-2.ensures.rest) (kept c.loop-path.rows.items _ _ _ _ _ c.loop-path.invariant.rows s.rows made (sym c.is_row_listed.ensures ∙ c.if-is_row_listed.true));
       order = rw (c.take.ensures.rest, c.take-in-Some.ensures.rest, c.take-in-Some-2.ensures.rest) s.order;
     }
 
@@ -26,7 +27,8 @@ loop-path-preserved c =
     let s = step c.loop-path.base_left c.loop-path.ours_left c.loop-path.theirs_left c.in-Some.path.now c.loop-path.invariant.order (sym c.in-Some.ensures) in
     let made : c.row-row.result ≡ row_of c.in-Some.path.now (head_entry c.loop-path.base_left c.in-Some.path.now) (head_entry c.loop-path.ours_left c.in-Some.path.now) (head_entry c.loop-path.theirs_left c.in-Some.path.now) = cc (c.row-row.ensures, c.in_ok-copy_of.ensures, c.take.ensures.entry, c.take-in-Some.ensures.entry, c.take-in-Some-2.ensures.entry) in
     record {
-      rows = rw (c.take.ensures.rest, c.take-in-Some.ensures.rest, c.take-in-Some-2.ensures.rest) (skipped c.loop-path.rows.items _ _ _ _ _ c.loop-path.invariant.rows s.rows made (sym c.is_row_listed.ensures ∙ c.if-is_row_listed.false));
+      rows =
+          rw (c.take.ensures.rest, c.take-in-Some.ensures.rest, c.take-in-Some-2.ensures.rest) (skipped c.loop-path.rows.items _ _ _ _ _ c.loop-path.invariant.rows s.rows made (sym c.is_row_listed.ensures ∙ c.if-is_row_listed.false));
       order = rw (c.take.ensures.rest, c.take-in-Some.ensures.rest, c.take-in-Some-2.ensures.rest) s.order;
     }
 

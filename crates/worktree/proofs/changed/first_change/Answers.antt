@@ -25,4 +25,6 @@ loop-rest-preserved g c =
     }
 
 pub returns-clause-found : goal.returns-clause-found
-returns-clause-found g c told = none_at (is_changed (g.S.Store.seen c.args.store.now).content) c.args.index.now c.loop-rest.rest.now (c.loop-rest.invariant.rest told) (omega arith) ∙ changed_is _ _
+returns-clause-found g c told =
+    none_at (is_changed (g.S.Store.seen c.args.store.now).content) c.args.index.now c.loop-rest.rest.now (c.loop-rest.invariant.rest told) (omega arith)
+    ∙ changed_is _ _

@@ -27,4 +27,5 @@ loop-rest-preserved g c =
     }
 
 pub returns-clause-gives : goal.returns-clause-gives
-returns-clause-gives g c told = all_written_too _ c.args.from.now c.args.begun.items c.loop-rest.writes.items c.args.files.now c.loop-rest.rest.now (c.loop-rest.invariant.made told) (omega arith)
+returns-clause-gives g c told =
+    all_written_too _ c.args.from.now c.args.begun.items c.loop-rest.writes.items c.args.files.now c.loop-rest.rest.now (c.loop-rest.invariant.made told) (omega arith)

@@ -28,4 +28,6 @@ loop-rest-preserved g c =
     }
 
 pub returns-clause-found : goal.returns-clause-found
-returns-clause-found g c told = none_at (λ e. is_obstructed (g.S.Store.seen c.args.store.now).content c.args.from.now (row_of e)) c.args.to.now c.loop-rest.rest.now (c.loop-rest.invariant.rest told) (omega arith) ∙ obstructed_is _ _ _
+returns-clause-found g c told =
+    none_at (λ e. is_obstructed (g.S.Store.seen c.args.store.now).content c.args.from.now (row_of e)) c.args.to.now c.loop-rest.rest.now (c.loop-rest.invariant.rest told) (omega arith)
+    ∙ obstructed_is _ _ _

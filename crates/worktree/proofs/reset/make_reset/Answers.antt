@@ -14,4 +14,5 @@ reset_rows-requires-clause-readable g c told =
     rows_as_before _ _ (map_of c.args.index.now) (own_stays _ _ _ c.in_ok-writes.ensures.own (c.in_ok-make_writes.ensures.elsewhere told)) ∙ c.requires.readable told
 
 pub returns-clause-git : goal.returns-clause-git
-returns-clause-git g c told = git_on _ _ _ (own_stays _ _ _ c.in_ok-writes.ensures.own (c.in_ok-make_writes.ensures.elsewhere told)) (c.reset_rows.ensures.git told)
+returns-clause-git g c told =
+    git_on _ _ _ (own_stays _ _ _ c.in_ok-writes.ensures.own (c.in_ok-make_writes.ensures.elsewhere told)) (c.reset_rows.ensures.git told)

@@ -23,10 +23,13 @@ pub loop-rest-preserved : goal.loop-rest-preserved
 loop-rest-preserved g c =
     let some : 0 < length c.loop-rest.rest.now = omega arith in
     record {
-      made = λ told. reset_more _ _ _ c.args.index.now c.loop-rest.rest.now c.entry-item.result (c.loop-rest.invariant.made told) some c.entry-item.is (c.in_ok-reset_row.ensures.turns told);
+      made =
+          λ told. reset_more _ _ _ c.args.index.now c.loop-rest.rest.now c.entry-item.result (c.loop-rest.invariant.made told) some c.entry-item.is (c.in_ok-reset_row.ensures.turns told);
       git = λ told. git_on _ _ _ (c.loop-rest.invariant.git told) (c.in_ok-reset_row.ensures.git told);
-      left = λ told. (rows_first (g.S.Store.seen c.args.store.now).content (row_of c.entry-item.result) _ (subst (λ (es : List IndexEntry). rows_readable (g.S.Store.seen c.args.store.now).content (map row_of es) ≡ Ok tt) (first_and_others c.loop-rest.rest.now c.entry-item.result some c.entry-item.is) (c.loop-rest.invariant.left told))).1;
-      so_far = λ told. so_far_more _ _ _ c.args.index.now c.loop-rest.rest.now c.entry-item.result (c.loop-rest.invariant.so_far told) some c.entry-item.is (c.in_ok-reset_row.ensures.turns told);
+      left =
+          λ told. (rows_first (g.S.Store.seen c.args.store.now).content (row_of c.entry-item.result) _ (subst (λ (es : List IndexEntry). rows_readable (g.S.Store.seen c.args.store.now).content (map row_of es) ≡ Ok tt) (first_and_others c.loop-rest.rest.now c.entry-item.result some c.entry-item.is) (c.loop-rest.invariant.left told))).1;
+      so_far =
+          λ told. so_far_more _ _ _ c.args.index.now c.loop-rest.rest.now c.entry-item.result (c.loop-rest.invariant.so_far told) some c.entry-item.is (c.in_ok-reset_row.ensures.turns told);
       cause = search rules;
     }
 

@@ -5,7 +5,8 @@ use Rattle.worktree.proofs.ReadBlobs.{one_kept, one_denied, one_written}
 use Rattle.worktree.proofs.writes.push_blob.Goals as goal
 
 pub returns-then-not-is_rewritten-clause-appends : goal.returns-then-not-is_rewritten-clause-appends
-returns-then-not-is_rewritten-clause-appends g c told = one_kept _ c.args.from.now c.args.entry.now c.args.writes.now.items (sym c.is_rewritten.ensures ∙ c.if-not-is_rewritten.true)
+returns-then-not-is_rewritten-clause-appends g c told =
+    one_kept _ c.args.from.now c.args.entry.now c.args.writes.now.items (sym c.is_rewritten.ensures ∙ c.if-not-is_rewritten.true)
 
 pub returns-in_err-bytes-clause-appends : goal.returns-in_err-bytes-clause-appends
 returns-in_err-bytes-clause-appends g c told =

@@ -29,4 +29,5 @@ loop-rest-preserved g c =
     }
 
 pub returns-clause-appends : goal.returns-clause-appends
-returns-clause-appends g c told = blobs_end _ c.args.from.now c.args.to.now c.loop-rest.rest.now c.args.writes.now.items c.loop-rest.writes.items (c.loop-rest.invariant.made told) (omega arith)
+returns-clause-appends g c told =
+    blobs_end _ c.args.from.now c.args.to.now c.loop-rest.rest.now c.args.writes.now.items c.loop-rest.writes.items (c.loop-rest.invariant.made told) (omega arith)

@@ -5,10 +5,12 @@ use Rattle.ref_text.proofs.PackedNames.{front_behind}
 use Rattle.ref_text.proofs.read_packed.NameScanScan.goes_on.Goals as goal
 
 pub returns-in-Some-clause-test : goal.returns-in-Some-clause-test
-returns-in-Some-clause-test c = λ seen b s e. ap (λ (o : Option RefFront). is_some o) (c.in-Some.ensures ∙ sym (front_behind c.args.self.now.stands c.args.front.now seen b s e))
+returns-in-Some-clause-test c =
+    λ seen b s e. ap (λ (o : Option RefFront). is_some o) (c.in-Some.ensures ∙ sym (front_behind c.args.self.now.stands c.args.front.now seen b s e))
 
 pub returns-in-Some-clause-seen : goal.returns-in-Some-clause-seen
 returns-in-Some-clause-seen c = λ seen b s e on. front_behind c.args.self.now.stands c.args.front.now seen b s e ∙ sym c.in-Some.ensures
 
 pub returns-in-None-clause-test : goal.returns-in-None-clause-test
-returns-in-None-clause-test c = λ seen b s e. ap (λ (o : Option RefFront). is_some o) (c.in-None.ensures ∙ sym (front_behind c.args.self.now.stands c.args.front.now seen b s e))
+returns-in-None-clause-test c =
+    λ seen b s e. ap (λ (o : Option RefFront). is_some o) (c.in-None.ensures ∙ sym (front_behind c.args.self.now.stands c.args.front.now seen b s e))

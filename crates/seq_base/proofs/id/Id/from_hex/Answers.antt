@@ -4,7 +4,8 @@ use Rattle.seq_base.proofs.Hexes.{accepted, refused}
 use Rattle.seq_base.proofs.id.Id.from_hex.Goals as goal
 
 pub invariant_of-result : goal.invariant_of-result
-invariant_of-result c = accepted c.args.text.now c.decode_to_slice.new.out c.decode_to_slice.result c.if-text-ne40.false c.decode_to_slice.ensures.value c.in-Ok.is
+invariant_of-result c =
+    accepted c.args.text.now c.decode_to_slice.new.out c.decode_to_slice.result c.if-text-ne40.false c.decode_to_slice.ensures.value c.in-Ok.is
 
 pub unreachable-requires : goal.unreachable-requires
 unreachable-requires c =
