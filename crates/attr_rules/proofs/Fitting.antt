@@ -6,14 +6,9 @@ use Rattle.std.proofs.lemmas.Bool.{eqb-true, eq-eqb, and_parts, or_cases, and_fr
 use Rattle.attr_rules.specs.declared.letter.Letter.{Letter}
 use Rattle.attr_rules.specs.Pieces.{Piece, Byte, AnyByte, OneOf, Star, Folders, Everything, Takes, TakeAll, Cut, piece_at, ends_part}
 use Rattle.attr_rules.specs.Matches.{Fits}
-use Rattle.attr_rules.specs.Reach.{may_be_empty, may_end, may_go_on, first_marks, later_marks, marks_behind}
-use Rattle.attr_rules.proofs.Marks.{goes_on, followed, holds, holds_later, holds_behind}
-
--- the pieces take the text, as a test
-abbrev pub are_taken : List Piece → List ℕ → Bool
-are_taken [] [] = true
-are_taken [] (b ∷ text) = false
-are_taken (p ∷ ps) text = followed p (are_taken ps) text
+use Rattle.attr_rules.specs.Deciding.{are_taken}
+use Rattle.attr_rules.specs.Reach.{followed, goes_on, may_be_empty, may_end, may_go_on, first_marks, later_marks, marks_behind}
+use Rattle.attr_rules.proofs.Marks.{holds, holds_later, holds_behind}
 
 -- ---- a piece alone
 
@@ -90,7 +85,7 @@ goes_on_from p q b (c ∷ front) rest h k =
     let parts = and_parts (may_go_on p b) (is_taken_from p c front) h in
     or_right _ _ (and_from _ _ parts.0 (goes_on_from p q c front rest parts.1 k))
 
-take_all : (ps : List Piece) (text : List ℕ) → are_taken ps text ≡ true → TakeAll ps text
+pub take_all : (ps : List Piece) (text : List ℕ) → are_taken ps text ≡ true → TakeAll ps text
 take_all [] [] h = refl
 take_all [] (b ∷ text) h = absurd (cc)
 take_all (p ∷ ps) text h = elim (or_cases (may_be_empty p && are_taken ps text) (goes_on p (are_taken ps) text) h) [
@@ -103,7 +98,7 @@ followed_from : (p : Piece) (q : List ℕ → Bool) (front rest : List ℕ) → 
 followed_from p q [] rest h k = or_left _ _ (and_from _ _ h k)
 followed_from p q (b ∷ front) rest h k = or_right _ _ (goes_on_from p q b front rest h k)
 
-all_taken : (ps : List Piece) (text : List ℕ) → TakeAll ps text → are_taken ps text ≡ true
+pub all_taken : (ps : List Piece) (text : List ℕ) → TakeAll ps text → are_taken ps text ≡ true
 all_taken [] text h = subst (λ (t : List ℕ). are_taken [] t ≡ true) (sym h) refl
 all_taken (p ∷ ps) text h =
     subst (λ (t : List ℕ). followed p (are_taken ps) t ≡ true) (sym h.4) (followed_from p (are_taken ps) h.0 h.1 (taken p h.0 h.2) (all_taken ps h.1 h.3))
@@ -159,7 +154,7 @@ pub fits_no_more : (begins : Bool) (rest : List Letter) (marks : List Bool) (tex
     → 0 < length rest → piece_at begins rest ≡ None → Fits letters text → ⊥
 fits_no_more begins rest marks text letters still some none f = let m = still.back f in no_cut begins rest m.0 some none m.1
 
-same_cut : (found other : Piece × List Letter) (begins : Bool) (rest : List Letter) → piece_at begins rest ≡ Some found
+pub same_cut : (found other : Piece × List Letter) (begins : Bool) (rest : List Letter) → piece_at begins rest ≡ Some found
     → piece_at begins rest ≡ Some other → found ≡ other
 same_cut found other begins rest e f = let g : Some found ≡ Some other = sym e ∙ f in cc
 

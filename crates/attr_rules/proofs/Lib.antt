@@ -6,3 +6,4 @@ pub mod Parts
 pub mod Words
 pub mod Definitions
 pub mod Says
+pub mod Deciding

@@ -2,16 +2,7 @@
 use Rattle.std.proofs.Common.{◌≡◌, ℕ, suc, Bool, true, false, List, [], ◌∷◌, length, refl, ap, ◌∙◌, arith}
 use Rattle.std.specs.Prelude.{◌&&◌, ◌||◌}
 use Rattle.attr_rules.specs.Pieces.{Piece}
-use Rattle.attr_rules.specs.Reach.{may_be_empty, may_end, may_go_on, later_marks, marks_behind}
-
--- a piece has begun, and takes at least one more byte before what is asked for
-abbrev pub goes_on : Piece → (List ℕ → Bool) → List ℕ → Bool
-goes_on p q [] = false
-goes_on p q (b ∷ path) = (may_end p b && q path) || (may_go_on p b && goes_on p q path)
-
--- a piece and then what is asked for
-abbrev pub followed : Piece → (List ℕ → Bool) → List ℕ → Bool
-followed p q path = (may_be_empty p && q path) || goes_on p q path
+use Rattle.attr_rules.specs.Reach.{followed, goes_on, may_be_empty, may_end, may_go_on, later_marks, marks_behind}
 
 -- what is asked for holds at a marked place behind the first
 abbrev pub holds_later : List Bool → List ℕ → (List ℕ → Bool) → Bool

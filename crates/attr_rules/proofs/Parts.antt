@@ -79,10 +79,6 @@ pub name_lost : (text word behind : List ℕ) → word ≡ before_first is_blank
     → have_names text ≡ false
 name_lost text word behind e f off = names_first text word behind e f ∙ ap (λ (t : Bool). t && have_names behind) off
 
-pub no_words : (text : List ℕ) → length text ≡ 0 → have_names text ≡ true
-no_words [] none = refl
-no_words (b ∷ text) none = absurd (omega arith)
-
 lines_first : (text line behind : List ℕ) → line ≡ before_first is_feed text → behind ≡ after_first is_feed text
     → lines_of text ≡ cons_option (line_of line) (lines_of behind)
 lines_first text line behind e f =

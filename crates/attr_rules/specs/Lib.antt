@@ -8,3 +8,4 @@ pub mod Rules
 pub mod Attributes
 pub mod Known
 pub mod MergeAttrs
+pub mod Deciding

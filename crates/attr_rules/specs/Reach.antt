@@ -44,3 +44,14 @@ marks_behind p (mark ∷ marks) path = (may_be_empty p && mark) ∷ later_marks 
 -- before the first piece only the front may be reached
 abbrev pub first_marks : List ℕ → List Bool
 first_marks path = true ∷ map (λ _. false) path
+
+-- ---- a piece and what follows it
+
+-- a piece has begun, and takes at least one more byte before what is asked for
+abbrev pub goes_on : Piece → (List ℕ → Bool) → List ℕ → Bool
+goes_on p q [] = false
+goes_on p q (b ∷ path) = (may_end p b && q path) || (may_go_on p b && goes_on p q path)
+
+-- a piece and then what is asked for
+abbrev pub followed : Piece → (List ℕ → Bool) → List ℕ → Bool
+followed p q path = (may_be_empty p && q path) || goes_on p q path

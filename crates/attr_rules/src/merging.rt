@@ -1,6 +1,7 @@
 //! The attribute `merge` of a path.
 
 ghost use Rattle.std.specs.Prelude.{◌≡◌, IfOk, MatchOption, None, Some};
+ghost use Rattle.attr_rules.specs.Deciding.{attribute_of};
 ghost use Rattle.attr_rules.specs.Known.{told};
 ghost use Rattle.attr_rules.specs.MergeAttrs.{below, LineSays, LinesSay, FileSays, FilesSay, IsMergeAttr};
 
@@ -98,7 +99,10 @@ fn files_say(
 /// folder is empty. Earlier goes by `binary`, which is `-diff -merge -text`, then those files, the weakest first, each from
 /// its top; of several definitions of one name only the last counts.
 pub fn merge_attr(alloc: Global, files: &[Rules], path: &Path) -> Result<MergeAttr, AllocError>
-    ensures { IfOk result (λ attribute. IsMergeAttr files.now path.now attribute) }
+    ensures said { IfOk result (λ attribute. IsMergeAttr files.now path.now attribute) }
+
+    // It follows from `said`: no other attribute is said.
+    ensures is { IfOk result (λ attribute. attribute ≡ attribute_of files.now path.now) }
 {
     let known = known_macros(alloc, files)?;
     let found = files_say(alloc, known.as_slice(), path.bytes(), files)?;

@@ -11,7 +11,7 @@ use seq_outside::Env;
 use std::alloc::{AllocError, Global};
 
 /// The value of the first variable of a name.
-fn variable<'a>(vars: &'a [(Bytes, Bytes)], name: &[u8]) -> Option<&'a [u8]>
+pub fn variable<'a>(vars: &'a [(Bytes, Bytes)], name: &[u8]) -> Option<&'a [u8]>
     ensures { option_map (λ value. value.now) result ≡ variable_of vars.now name.now }
 {
     let mut rest = vars;

@@ -4,5 +4,5 @@
 mod editors;
 mod jobs;
 
-pub use editors::editor;
+pub use editors::{editor, variable};
 pub use jobs::{editor_job, exec_job, hook_job};

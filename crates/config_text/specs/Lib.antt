@@ -5,3 +5,4 @@ pub mod Lookups
 pub mod Faults
 pub mod Reading
 pub mod Returns
+pub mod Files

@@ -74,6 +74,13 @@ impl Config {
         }
     }
 
+    /// The settings, in the file's order.
+    pub fn as_slice(&self) -> &[Setting]
+        ensures { result.now ≡ self.now }
+    {
+        &self.held
+    }
+
     /// The setting at a place, counted from 0 in the file's order, if there is one.
     pub fn at(&self, n: usize) -> Option<&Setting>
         ensures { option_copied result ≡ slice_get self.now n }

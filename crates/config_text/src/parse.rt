@@ -5,6 +5,7 @@ ghost use Rattle.grammar.specs.Gives.{Gives};
 ghost use Rattle.grammar.specs.Grammar.{IsReading};
 ghost use Rattle.config_text.specs.Configs.{IsConfig};
 ghost use Rattle.config_text.specs.Faults.{IsLineFault};
+ghost use Rattle.config_text.specs.Files.{GivesConfig, config_of};
 ghost use Rattle.config_text.specs.Reading.{start};
 ghost use Rattle.config_text.specs.Returns.{fed, read_from};
 
@@ -40,8 +41,12 @@ fn settings_of(alloc: Global, text: &[u8]) -> Result<Vec<Setting>, ReadError>
 /// joins two lines. A CR before LF is dropped. The settings of the sections `include` and `includeIf` are passed over.
 /// Bad is the first line with which no configuration goes on, or the last one where the text ends too early: so for a key before the
 /// first section, a quote that is not closed, or another escape.
+#[tactic(auto, unfolding(crate::specs::Files::config_of))]
 pub fn parse_config(alloc: Global, text: &[u8]) -> Result<Config, LineFault>
-    ensures { IsReading (λ config. config) (IsLineFault IsConfig text.now) IsConfig text.now result }
+    ensures reads { IsReading (λ config. config) (IsLineFault IsConfig text.now) IsConfig text.now result }
+
+    // It follows from `reads`, and says it by a function.
+    ensures gives { GivesConfig result (config_of text.now) }
 {
     match settings_of(alloc, text) {
         Ok(settings) => Ok(Config::from_settings(settings)),

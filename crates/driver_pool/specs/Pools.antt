@@ -1,5 +1,5 @@
 -- What a run of merge drivers is seen to do, one after another (gitattributes(5), "Defining a custom merge driver").
-use Rattle.std.specs.Prelude.{◌≡◌, ◌⊎◌, ℕ, ◌+◌, ◌≤◌, ◌==◌, nat_lt, true, false, if◌then◌else◌, List, [], ◌∷◌, length, Option, Some, None, Result, Ok, Err}
+use Rattle.std.specs.Prelude.{◌≡◌, ◌⊎◌, ℕ, ◌+◌, ◌==◌, nat_lt, true, false, if◌then◌else◌, List, [], ◌∷◌, length, Option, Some, None, Result, Ok, Err}
 use Rattle.std.specs.FinMap as map
 use Rattle.std.specs.Global.{Vec}
 use Rattle.std.specs.List.{AllByRecursion}
@@ -7,8 +7,8 @@ use Rattle.child_jobs.specs.Jobs.{exec_of}
 use Rattle.seq_base.specs.Words.{Text}
 use Rattle.seq_base.specs.World.{World}
 use Rattle.seq_outside.specs.Causes.{Rose}
-use Rattle.seq_outside.specs.Child.{Noted}
-use Rattle.seq_outside.specs.Seen.{Cause, Goes, Seen}
+use Rattle.seq_outside.specs.Child.{Noted, Serves, Spawns}
+use Rattle.seq_outside.specs.Seen.{Cause, HasFault, Lasts, Seen}
 use Rattle.seq_outside.specs.Seen.Cause.{ByBlock, ByFault, ByNone}
 use Rattle.seq_outside.specs.declared.child.Exit.{Exit}
 use Rattle.seq_outside.specs.declared.child.Exit.TheVariants.{Code, Killed}
@@ -59,13 +59,33 @@ ended_as (Err Child) second = or_fault second (Err Child)
 ended_as (Err Memory) second = or_fault second (Err Memory)
 ended_as (Ok x) second = second
 
+abbrev pub unless_fails : Result (Unit {0}) PoolFault → Result DriverEnd PoolFault → Result DriverEnd PoolFault
+unless_fails (Ok x) end = end
+unless_fails (Err fault) end = Err fault
+
+-- what a driver came to, once its files were to be removed: a fault of the store before all
+abbrev pub end_behind : Result DriverEnd PoolFault → Result (Unit {0}) PoolFault → Result DriverEnd PoolFault
+end_behind (Err Fault) removed = Err Fault
+end_behind (Err Blocked) removed = unless_fails removed (Err Blocked)
+end_behind (Err Child) removed = unless_fails removed (Err Child)
+end_behind (Err Memory) removed = unless_fails removed (Err Memory)
+end_behind (Ok end) removed = unless_fails removed (Ok end)
+
 -- A fault of the store, a blocked put and a child that could not be run come only where that count rose, and no count falls.
-abbrev pub HasPoolCause : {T : Type 0} → Type 0 → Result T PoolFault → Seen → Seen → ℕ → ℕ → Type 0
-HasPoolCause told (Ok x) old new children children' = Goes told old new × (children ≤ children')
-HasPoolCause told (Err Fault) old new children children' = Goes told old new × (children ≤ children') × Rose old.faults new.faults
-HasPoolCause told (Err Blocked) old new children children' = Goes told old new × (children ≤ children') × Rose old.blocked new.blocked
-HasPoolCause told (Err Child) old new children children' = Goes told old new × (children ≤ children') × Rose children children'
-HasPoolCause told (Err Memory) old new children children' = Goes told old new × (children ≤ children')
+abbrev pub HasPoolCause : {T : Type 0} → Type 0 → Result T PoolFault → Seen → Seen → Spawns → Spawns → Type 0
+HasPoolCause told (Ok x) old new spawns spawns' = Lasts old new × Serves spawns spawns'
+HasPoolCause told (Err Fault) old new spawns spawns' = Lasts old new × Serves spawns spawns' × HasFault told old new
+HasPoolCause told (Err Blocked) old new spawns spawns' = Lasts old new × Serves spawns spawns' × Rose old.blocked new.blocked
+HasPoolCause told (Err Child) old new spawns spawns' = Lasts old new × Serves spawns spawns' × Rose spawns.faults spawns'.faults
+HasPoolCause told (Err Memory) old new spawns spawns' = Lasts old new × Serves spawns spawns'
+
+-- Where no call of a child raised the store's count of faults, only a fault of the store does.
+abbrev pub StaysCalm : {T : Type 0} → Result T PoolFault → Seen → Seen → Type 0
+StaysCalm (Ok x) old new = new.faults ≡ old.faults
+StaysCalm (Err Fault) old new = Unit {0}
+StaysCalm (Err Blocked) old new = new.faults ≡ old.faults
+StaysCalm (Err Child) old new = new.faults ≡ old.faults
+StaysCalm (Err Memory) old new = new.faults ≡ old.faults
 
 -- ---- one driver
 
@@ -75,17 +95,25 @@ pub record HandsIn {P : Type 0} (told : Type 0) (ran : P → Noted → P → Typ
   pub job_is : n.job ≡ exec_of job.command
   pub over_is : told → n.over ≡ with_files number job found
 
+-- No call was made, or the job was handed in.
+abbrev pub HandsInOrNot : {P : Type 0} → Type 0 → (P → Noted → P → Type 0) → ℕ → DriverJob → P → Seen → Result DriverEnd PoolFault → P → Seen → Type 0
+HandsInOrNot told ran number job p old result q new =
+    ((q ≡ p) × StaysCalm result old new)
+    ⊎ ((n : Noted) × HandsIn told ran number job p old.content n q × (n.rose ≡ false → StaysCalm result old new))
+
 -- What is seen of one driver. `after` is what becomes of the world that its child leaves.
 abbrev pub DrivesBy : {P : Type 0} → (World → World) → Type 0 → (P → Noted → P → Type 0) → ℕ → DriverJob → P → Seen → Result DriverEnd PoolFault → P
     → Seen → Type 0
 DrivesBy after told ran number job p old (Ok end) q new =
     (n : Noted) × HandsIn told ran number job p old.content n q
     × (n.failed ≡ false) × (told → end ≡ end_of n.exit (map.get n.left (file_of number Ours))) × (told → new.content ≡ after n.left)
+    × (n.rose ≡ false → new.faults ≡ old.faults)
 DrivesBy after told ran number job p old (Err Child) q new =
     (n : Noted) × HandsIn told ran number job p old.content n q × (n.failed ≡ true) × (told → new.content ≡ after n.left)
-DrivesBy after told ran number job p old (Err Fault) q new = (q ≡ p) ⊎ ((n : Noted) × HandsIn told ran number job p old.content n q)
-DrivesBy after told ran number job p old (Err Blocked) q new = (q ≡ p) ⊎ ((n : Noted) × HandsIn told ran number job p old.content n q)
-DrivesBy after told ran number job p old (Err Memory) q new = (q ≡ p) ⊎ ((n : Noted) × HandsIn told ran number job p old.content n q)
+    × (n.rose ≡ false → new.faults ≡ old.faults)
+DrivesBy after told ran number job p old (Err Fault) q new = HandsInOrNot told ran number job p old (Err Fault) q new
+DrivesBy after told ran number job p old (Err Blocked) q new = HandsInOrNot told ran number job p old (Err Blocked) q new
+DrivesBy after told ran number job p old (Err Memory) q new = HandsInOrNot told ran number job p old (Err Memory) q new
 
 -- one driver, whose files are removed behind it
 pub record IsDriven {P : Type 0} (told : Type 0) (ran : P → Noted → P → Type 0) (number : ℕ) (job : DriverJob) (p : P) (old : Seen) (result : Result DriverEnd PoolFault) (q : P) (new : Seen) : Type 0 where
@@ -120,6 +148,10 @@ ends_of number (n ∷ notes) = end_of n.exit (map.get n.left (file_of number Our
 abbrev pub HasWell : List Noted → Type 0
 HasWell notes = AllByRecursion (λ n. n.failed ≡ false) notes
 
+-- none of these calls raised the store's count of faults
+abbrev pub IsCalm : List Noted → Type 0
+IsCalm notes = AllByRecursion (λ n. n.rose ≡ false) notes
+
 -- the last of them could not be run
 abbrev pub HasFailedLast : List Noted → Type 0
 HasFailedLast [] = ⊥
@@ -136,8 +168,9 @@ ComesTo told jobs w notes (Err Blocked) left = Unit {0}
 ComesTo told jobs w notes (Err Memory) left = Unit {0}
 
 -- What was seen of the spawner, and what it came to.
-pub record RunsDrivers {P : Type 0} (told : Type 0) (ran : P → Noted → P → Type 0) (jobs : List DriverJob) (p : P) (w : World) (result : Result (Vec DriverEnd) PoolFault) (q : P) (left : World) : Type 0 where
+pub record RunsDrivers {P : Type 0} (told : Type 0) (ran : P → Noted → P → Type 0) (jobs : List DriverJob) (p : P) (old : Seen) (result : Result (Vec DriverEnd) PoolFault) (q : P) (new : Seen) : Type 0 where
   pub notes : List Noted
   pub noted : AreNoted ran p notes q
-  pub handed : AreHandedIn told 1 jobs w notes
-  pub comes : ComesTo told jobs w notes result left
+  pub handed : AreHandedIn told 1 jobs old.content notes
+  pub comes : ComesTo told jobs old.content notes result new.content
+  pub calm : IsCalm notes → StaysCalm result old new

@@ -3,7 +3,7 @@
 ghost use Rattle.std.specs.Prelude.{◌≡◌, ◌≤◌, IsErrOf, OnOk, IfOk};
 ghost use Rattle.std.specs.FinMap as map;
 ghost use Rattle.driver_pool.specs.Files.{file_of, with_files, without_files};
-ghost use Rattle.driver_pool.specs.Pools.{DrivesBy, HasPoolCause, IsDriven, RunsDrivers, end_of, end_with as end_with_of, ended_as, pool_cause};
+ghost use Rattle.driver_pool.specs.Pools.{DrivesBy, HasPoolCause, IsDriven, RunsDrivers, end_behind, end_of, end_with as end_with_of, ended_as, pool_cause};
 ghost use Rattle.driver_pool.specs.declared.files.Version.TheVariants.{Ours};
 ghost use Rattle.seq_outside.specs.Seen.{Reads, Writes};
 
@@ -144,14 +144,29 @@ fn run_child<S: Store, P: Spawner<S>>(
     job: &DriverJob,
 ) -> Result<DriverEnd, PoolFault>
     ensures drives { DrivesBy (λ w. w) S.told P.ran number job.now spawner.old (S.seen store.old) result spawner.new (S.seen store.new) }
-    ensures cause { HasPoolCause S.told result (S.seen store.old) (S.seen store.new) (P.faults spawner.old) (P.faults spawner.new) }
+    ensures cause { HasPoolCause S.told result (S.seen store.old) (S.seen store.new) (P.seen spawner.old) (P.seen spawner.new) }
 {
     put_files(alloc, store, number, job)?;
     let child = exec_job(alloc, job.command.as_slice())?;
     match spawner.run(alloc, store, &child) {
         Ok(exit) => read_end(alloc, store, number, exit),
         Err(ChildError::Failed) => Err(PoolFault::Child),
+        Err(ChildError::Store) => Err(PoolFault::Fault),
         Err(ChildError::Memory) => Err(PoolFault::Memory),
+    }
+}
+
+/// What a driver came to, once its files were to be removed: a fault of the store before all.
+fn behind(
+    end: Result<DriverEnd, PoolFault>,
+    removed: Result<(), PoolFault>,
+) -> Result<DriverEnd, PoolFault>
+    ensures { result ≡ end_behind end removed }
+{
+    match (end, removed) {
+        (Err(PoolFault::Fault), _) => Err(PoolFault::Fault),
+        (_, Err(fault)) => Err(fault),
+        (end, Ok(())) => end,
     }
 }
 
@@ -164,16 +179,11 @@ fn run_driver<S: Store, P: Spawner<S>>(
     job: &DriverJob,
 ) -> Result<DriverEnd, PoolFault>
     ensures drives { IsDriven S.told P.ran number job.now spawner.old (S.seen store.old) result spawner.new (S.seen store.new) }
-    ensures cause { HasPoolCause S.told result (S.seen store.old) (S.seen store.new) (P.faults spawner.old) (P.faults spawner.new) }
+    ensures cause { HasPoolCause S.told result (S.seen store.old) (S.seen store.new) (P.seen spawner.old) (P.seen spawner.new) }
 {
     let end = run_child(alloc, store, spawner, number, job);
-    match remove_files(alloc, store, number) {
-        Ok(()) => end,
-        Err(PoolFault::Fault) => Err(PoolFault::Fault),
-        Err(PoolFault::Memory) => Err(PoolFault::Memory),
-        Err(PoolFault::Blocked) => unreachable!(),
-        Err(PoolFault::Child) => unreachable!(),
-    }
+    let removed = remove_files(alloc, store, number);
+    behind(end, removed)
 }
 
 /// Runs the drivers of a merge, one after another: job number K, counted from 1, is handed its three files while it runs, and they
@@ -188,8 +198,8 @@ pub fn run_drivers<S: Store, P: Spawner<S>>(
     _width: u8,
 ) -> Result<Vec<DriverEnd>, PoolFault>
     requires { (1 ≤ _width) × (_width ≤ 16) }
-    ensures runs { RunsDrivers S.told P.ran jobs.now spawner.old (S.seen store.old).content result spawner.new (S.seen store.new).content }
-    ensures cause { HasPoolCause S.told result (S.seen store.old) (S.seen store.new) (P.faults spawner.old) (P.faults spawner.new) }
+    ensures runs { RunsDrivers S.told P.ran jobs.now spawner.old (S.seen store.old) result spawner.new (S.seen store.new) }
+    ensures cause { HasPoolCause S.told result (S.seen store.old) (S.seen store.new) (P.seen spawner.old) (P.seen spawner.new) }
 {
     let mut ends = Vec::new(alloc);
     let mut number = 1;

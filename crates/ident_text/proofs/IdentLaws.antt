@@ -77,7 +77,7 @@ is_name = record {
   starts = refl;
   fronts =
       λ front back b x v. let k =
-          front_passes is_ident_byte front back b (name_of (front ++ b ∷ back) x v).0 in (k.0, not_this is_ident_byte b 60 k.1 refl);
+      front_passes is_ident_byte front back b (name_of (front ++ b ∷ back) x v).0 in (k.0, not_this is_ident_byte b 60 k.1 refl);
   ends = λ front m. (front, 32 ∷ [], (omega arith, tt), spaced front m);
 }
 

@@ -196,31 +196,31 @@ unfolding entries_at
 entries_err zero es bytes f h o e = absurd (not_both {A = List IndexEntry × List ℕ} (Ok (es, bytes)) (es, bytes) f refl e)
 entries_err (suc n) es bytes f h o e =
     elim (bind_err (entry_at (length es + 1) bytes) (λ entry. appended es entry.0 >>= λ more. entries_at n more entry.1) f e) [
-  | inl fails ↦ fails_at_once n es bytes f h o (inl fails)
-  | inr x ↦ elim (bind_err (appended es x.0.0) (λ more. entries_at n more x.0.1) f x.2) [
-    | inl fails ↦ fails_at_once n es bytes f h o (inr (x.0, x.1, fails))
-    | inr more ↦
-        let row = entry_takes (length es + 1) bytes x.0.0 x.0.1 h x.1 in
-        let follows = appended_is es x.0.0 more.0 more.1 in
-        let P : List IndexEntry → Type 0 = λ es. IsInOrder es in
-        let r = entries_err n more.0 x.0.1 f row.rest_bytes (subst P follows.1 (in_order_push es x.0.0 o follows.0)) more.2 in
-        record {
-          rows = (row.stat, x.0.0) ∷ r.rows;
-          left = r.left;
-          text =
-              row.text ∙ ap (λ (t : List ℕ). row_text (row.stat, x.0.0) ++ t) r.text
-              ∙ sym (append_assoc (row_text (row.stat, x.0.0)) (flat_map row_text r.rows) r.left);
-          are_rows = (row.is_row, r.are_rows);
-          more = omega (arith, r.more);
-          before = r.before;
-          entries =
-              r.entries ∙ ap (λ (t : List IndexEntry). t ++ entries_of r.rows) (sym follows.1) ∙ append_assoc es (x.0.0 ∷ []) (entries_of r.rows);
-          in_order = r.in_order;
-          left_bytes = r.left_bytes;
-          why = r.why;
-        }
-  ]
-]
+      | inl fails ↦ fails_at_once n es bytes f h o (inl fails)
+      | inr x ↦ elim (bind_err (appended es x.0.0) (λ more. entries_at n more x.0.1) f x.2) [
+        | inl fails ↦ fails_at_once n es bytes f h o (inr (x.0, x.1, fails))
+        | inr more ↦
+            let row = entry_takes (length es + 1) bytes x.0.0 x.0.1 h x.1 in
+            let follows = appended_is es x.0.0 more.0 more.1 in
+            let P : List IndexEntry → Type 0 = λ es. IsInOrder es in
+            let r = entries_err n more.0 x.0.1 f row.rest_bytes (subst P follows.1 (in_order_push es x.0.0 o follows.0)) more.2 in
+            record {
+              rows = (row.stat, x.0.0) ∷ r.rows;
+              left = r.left;
+              text =
+                  row.text ∙ ap (λ (t : List ℕ). row_text (row.stat, x.0.0) ++ t) r.text
+                  ∙ sym (append_assoc (row_text (row.stat, x.0.0)) (flat_map row_text r.rows) r.left);
+              are_rows = (row.is_row, r.are_rows);
+              more = omega (arith, r.more);
+              before = r.before;
+              entries =
+                  r.entries ∙ ap (λ (t : List IndexEntry). t ++ entries_of r.rows) (sym follows.1) ∙ append_assoc es (x.0.0 ∷ []) (entries_of r.rows);
+              in_order = r.in_order;
+              left_bytes = r.left_bytes;
+              why = r.why;
+            }
+      ]
+    ]
 
 false_is_not : (b : Bool) → b ≡ false → b ≡ true → ⊥
 false_is_not b p q = cc
@@ -298,12 +298,12 @@ extension_err : (left : List ℕ) (f : IndexFault) → extension_at left ≡ fai
 unfolding extension_at
 extension_err left f e =
     elim (three_err (nat_lt (length left) 28) (not (is_capital (slice_index left 0))) (nat_lt (length left) (28 + size_in left)) fault.Count (fault.Extension (take 4 left)) fault.Count (drop (8 + size_in left) left) f e) [
-  | inl a ↦ inl (is_less (length left) 28 a.0, a.1)
-  | inr b ↦ elim b [
-    | inl c ↦ inr (inl (not_less (length left) 28 c.0, not_capital (slice_index left 0) c.1, c.2))
-    | inr c ↦ inr (inr (capital_is (slice_index left 0) c.0, is_less (length left) (28 + size_in left) c.1, c.2))
-  ]
-]
+      | inl a ↦ inl (is_less (length left) 28 a.0, a.1)
+      | inr b ↦ elim b [
+        | inl c ↦ inr (inl (not_less (length left) 28 c.0, not_capital (slice_index left 0) c.1, c.2))
+        | inr c ↦ inr (inr (capital_is (slice_index left 0) c.0, is_less (length left) (28 + size_in left) c.1, c.2))
+      ]
+    ]
 
 record FailsBehind (bytes : List ℕ) (f : IndexFault) : Type 0 where
   extensions : List Extension

@@ -38,19 +38,19 @@ parents_first_more : (nodes : List Node) (node : Node) → ParentsFirst nodes �
     → ParentsFirst (nodes ++ node ∷ [])
 parents_first_more nodes node first new there k d l =
     elim (eqb k (length nodes)) as (λ t. eqb k (length nodes) ≡ t → (has (take k (nodes ++ node ∷ [])) (get_or (nodes ++ node ∷ []) k d).id ≡ false) × (first_missing (take k (nodes ++ node ∷ [])) (get_or (nodes ++ node ∷ []) k d).parents ≡ None)) [
-  | true ↦ λ e.
-      let same : k ≡ length nodes = (Decides-eqb k (length nodes)).0 e in
-      let front : take k (nodes ++ node ∷ []) ≡ nodes = ap (λ (j : ℕ). take j (nodes ++ node ∷ [])) same ∙ take_left nodes node (length nodes) (omega arith) ∙ take_whole nodes in
-      let here : get_or (nodes ++ node ∷ []) k d ≡ node = ap (λ (j : ℕ). get_or (nodes ++ node ∷ []) j d) same ∙ at_end nodes node d in
-      ((λ i. has (front i) (here i).id) ∙ new, (λ i. first_missing (front i) (here i).parents) ∙ there)
-  | false ↦ λ e.
-      let ne : k ≢ length nodes = (λ q. let o = (Decides-eqb k (length nodes)).1 q in cc) in
-      let before : k < length nodes = omega (arith, length_more nodes node, ne) in
-      let front = take_left nodes node k (omega arith) in
-      let here = at_left nodes node k d before in
-      let was = first k d before in
-      ((λ i. has (front i) (here i).id) ∙ was.0, (λ i. first_missing (front i) (here i).parents) ∙ was.1)
-] refl
+      | true ↦ λ e.
+          let same : k ≡ length nodes = (Decides-eqb k (length nodes)).0 e in
+          let front : take k (nodes ++ node ∷ []) ≡ nodes = ap (λ (j : ℕ). take j (nodes ++ node ∷ [])) same ∙ take_left nodes node (length nodes) (omega arith) ∙ take_whole nodes in
+          let here : get_or (nodes ++ node ∷ []) k d ≡ node = ap (λ (j : ℕ). get_or (nodes ++ node ∷ []) j d) same ∙ at_end nodes node d in
+          ((λ i. has (front i) (here i).id) ∙ new, (λ i. first_missing (front i) (here i).parents) ∙ there)
+      | false ↦ λ e.
+          let ne : k ≢ length nodes = (λ q. let o = (Decides-eqb k (length nodes)).1 q in cc) in
+          let before : k < length nodes = omega (arith, length_more nodes node, ne) in
+          let front = take_left nodes node k (omega arith) in
+          let here = at_left nodes node k d before in
+          let was = first k d before in
+          ((λ i. has (front i) (here i).id) ∙ was.0, (λ i. first_missing (front i) (here i).parents) ∙ was.1)
+    ] refl
 
 abbrev or_place : Option ℕ → Option ℕ → Option ℕ
 or_place None other = other

@@ -1,5 +1,5 @@
 -- A search from some commits marks exactly these and their ancestors.
-use Rattle.std.proofs.Common.{◌≡◌, ◌≢◌, ◌⊎◌, inl, inr, ℕ, zero, suc, ◌<◌, ◌≤◌, Bool, true, false, cond, eqb, List, [], ◌∷◌, length, get_or, replicate, Option, Some, None, Contains, is_some, refl, sym, ap, subst, ◌∙◌, arith}
+use Rattle.std.proofs.Common.{◌≡◌, ◌≢◌, ◌⊎◌, inl, inr, ℕ, zero, suc, ◌<◌, ◌≤◌, Bool, true, false, cond, eqb, List, length, get_or, replicate, Option, Some, None, Contains, is_some, refl, sym, ap, subst, ◌∙◌, arith}
 use Rattle.std.proofs.lemmas.Bool.Decides.{Decides-eqb}
 use Rattle.std.proofs.lemmas.List.{get_or_default, length-replicate}
 use Rattle.merge_base.specs.declared.graph.Node.{Node}
@@ -177,17 +177,6 @@ reached_marked graph tips first =
     }
 
 -- ---- one commit
-
-pub of_one : (graph : List Node) (commit : List ℕ) (marks : List Bool) → MarkReached graph (commit ∷ []) marks → MarkAncestors graph commit marks
-of_one graph commit marks m =
-    record { length_is = m.length_is; each = λ place l. (λ e. from ((m.each place l).0 e), λ a. (m.each place l).1 (record { tip = commit; among = (0, omega arith, refl); above = a })) }
-  where
-    only : (tip : List ℕ) (i : ℕ) → i < 1 → get_or (commit ∷ []) i tip ≡ tip → commit ≡ tip
-    only tip zero l e = e
-    only tip (suc i) l e = absurd (omega arith)
-
-    from : {id : List ℕ} → Reached graph (commit ∷ []) id → Ancestors graph commit id
-    from {id} r = subst (λ (c : List ℕ). Ancestors graph c id) (sym (only r.tip r.among.0 r.among.1 r.among.2)) r.above
 
 -- the place of a commit that is an ancestor is marked
 pub marked_ancestor : (graph : List Node) (commit : List ℕ) (marks : List Bool) → ParentsFirst graph → MarkAncestors graph commit marks

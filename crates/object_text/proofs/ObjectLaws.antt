@@ -108,7 +108,7 @@ content_reads n = record {
         off [] = tt
         off (b ∷ back) =
             λ x more g. let low =
-                ltb-false (length bytes) n t-is in absurd (omega (arith, length-take n bytes, ap length g.1, g.0, length-append (take n bytes) (b ∷ more)))
+            ltb-false (length bytes) n t-is in absurd (omega (arith, length-take n bytes, ap length g.1, g.0, length-append (take n bytes) (b ∷ more)))
     stops bytes left false t-is false u-is e = absurd cc
 
 content_has : (n : ℕ) → HasText (Content n)

@@ -1,10 +1,10 @@
 -- Reading the first lines of a tag.
-use Rattle.std.proofs.Common.{◌≡◌, ℕ, true, List, [], ◌∷◌, ◌++◌, Result, Ok, Err, refl, sym, ap, subst, ◌∙◌, append_assoc, arith}
+use Rattle.std.proofs.Common.{◌≡◌, ℕ, true, List, [], ◌∷◌, ◌++◌, Result, Ok, refl, sym, ap, subst, ◌∙◌, append_assoc, arith}
 use Rattle.std.specs.Prelude.{codes}
 use Rattle.std.specs.List.{list_all}
 use Rattle.std.proofs.lemmas.List.{append-nil}
 use Rattle.grammar.specs.Grammar.{AllBytes}
-use Rattle.grammar.specs.Readers.{◌>>=◌, Reads, ReadsAll, HasText, Then, then_all, then_at, Nothing, nothing_at, Word, valued_at, Run, run_at, Literal, literal_at}
+use Rattle.grammar.specs.Readers.{Reads, ReadsAll, HasText, Then, then_all, then_at, Nothing, nothing_at, Word, valued_at, Run, run_at, Literal, literal_at}
 use Rattle.grammar.specs.Keywords.{may_of, value_of}
 use Rattle.grammar.proofs.Keywords.{keywords, value_text}
 use Rattle.grammar.proofs.Laws.{nothing_reads, ok_is, then_reads, then_reads_all}

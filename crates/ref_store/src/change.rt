@@ -53,7 +53,7 @@ fn expect<S: Store>(
 }
 
 /// Whether something is in the way of a name's file, or of its log.
-fn has_in_way<S: Store>(alloc: Global, store: &mut S, name: &[u8]) -> Result<bool, StoreError>
+pub fn has_in_way<S: Store>(alloc: Global, store: &mut S, name: &[u8]) -> Result<bool, StoreError>
     requires { IsRefName name.now }
     ensures found { S.told → IfOk result (λ found. found ≡ is_barred (S.seen store.old).content name.now) }
     ensures reads { Reads S.told store_cause result (S.seen store.old) (S.seen store.new) }
@@ -150,8 +150,10 @@ fn put_optional_line<S: Store>(
     }
 }
 
+/// Gives a ref a value, whatever it has, and its log the line, if one is given and a log is kept of it. Blocked where something is in the
+/// way of its file; where something is in the way of its log alone, the value is written and Blocked answered.
 #[tactic(auto, unfolding(crate::specs::Changes::value_noted))]
-fn note_value<S: Store>(
+pub fn note_value<S: Store>(
     alloc: Global,
     store: &mut S,
     name: &[u8],
@@ -214,8 +216,9 @@ pub fn update<S: Store>(
     write_value(alloc, store, name, new, line)
 }
 
+/// Writes HEAD's file, and nothing into its log. Blocked where something is in the way of it; then nothing is written.
 #[tactic(auto, unfolding(crate::specs::Changes::head_put))]
-fn put_head<S: Store>(alloc: Global, store: &mut S, head: &Head) -> Result<(), Halt<RefFault>>
+pub fn put_head<S: Store>(alloc: Global, store: &mut S, head: &Head) -> Result<(), Halt<RefFault>>
     requires { IsHeadValue head.now }
     ensures turns { S.told → Does result (head_put head.now) (S.seen store.old) (S.seen store.new) }
     ensures elsewhere { S.told → StaysBut (ref_path head_name) (S.seen store.old) (S.seen store.new) }

@@ -12,7 +12,7 @@ mod read;
 mod removal;
 
 pub use branch::{move_branch, move_head};
-pub use change::{set_head, update};
+pub use change::{has_in_way, note_value, put_head, set_head, update};
 pub use fault::RefFault;
 pub use folder::list;
 pub use laws::{

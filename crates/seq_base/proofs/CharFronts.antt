@@ -115,12 +115,12 @@ shape c s = by (cases_lt c 128) (cases_lt c 2048) (cases_lt c 65536)
     }) (followed c) (three c l h)
     by (inr _) (inr _) (inr l) =
         let most = top in of4 (240 + c / 262144) (next (c / 4096)) (next (c / 64)) (next c) (omega arith) (omega arith) (record {
-      follow = followed (c / 4096);
-      least_three = λ e. absurd (omega arith);
-      no_surrogate = λ e. absurd (omega arith);
-      least_four = λ e. omega arith;
-      greatest = λ e. omega arith;
-    }) (followed (c / 64)) (followed c) (four c l)
+          follow = followed (c / 4096);
+          least_three = λ e. absurd (omega arith);
+          no_surrogate = λ e. absurd (omega arith);
+          least_four = λ e. omega arith;
+          greatest = λ e. omega arith;
+        }) (followed (c / 64)) (followed c) (four c l)
 
 -- text that is not empty begins with a character
 first_char : (bs : List ℕ) → 0 < length bs → IsUtf8 bs → (c : ℕ) × (r : List ℕ) × Shape c × (bs ≡ encode c ++ r)

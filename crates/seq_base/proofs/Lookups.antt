@@ -57,12 +57,12 @@ held_from : (es : List (List ℕ × Entry)) (path : List ℕ) (entry : Entry) �
 held_from [] path entry h = absurd cc
 held_from (e ∷ es) path entry h =
     elim (bytes_eq e.0 path) as (λ t. bytes_eq e.0 path ≡ t → cond t (Some e.1) (entry_at es path) ≡ Some entry → Contains (e ∷ es) (path, entry)) [
-  | true ↦ λ is now.
-      let here : e.0 ≡ path = (bytes_eq-Decides e.0 path).0 is in
-      let value : e.1 ≡ entry = cc in
-      (0, omega arith, pair e path entry here value)
-  | false ↦ λ is later. let k = held_from es path entry later in (suc k.0, omega (arith, k.1), k.2)
-] refl h
+      | true ↦ λ is now.
+          let here : e.0 ≡ path = (bytes_eq-Decides e.0 path).0 is in
+          let value : e.1 ≡ entry = cc in
+          (0, omega arith, pair e path entry here value)
+      | false ↦ λ is later. let k = held_from es path entry later in (suc k.0, omega (arith, k.1), k.2)
+    ] refl h
   where
     pair : (e : List ℕ × Entry) (path : List ℕ) (entry : Entry) → e.0 ≡ path → e.1 ≡ entry → e ≡ (path, entry)
     pair e path entry p v = ap (λ (a : List ℕ). (a, e.1)) p ∙ ap (λ (b : Entry). (path, b)) v

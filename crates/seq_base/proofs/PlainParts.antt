@@ -76,11 +76,11 @@ none_bad : (at : ℕ) (ps : List (List ℕ)) → All (λ part. has_no 47 part �
 none_bad at [] free h = All-nil IsPlainPart
 none_bad at (p ∷ ps) free h =
     elim (is_part p) as (λ t. is_part p ≡ t → cond t (first_bad (at + length p + 1) ps) (Some at) ≡ None → All IsPlainPart (p ∷ ps)) [
-  | true ↦ λ is later.
-      All-cons IsPlainPart p ps (plain_from p is (All-head (λ part. has_no 47 part ≡ true) p ps free))
-      (none_bad (at + length p + 1) ps (All-tail (λ part. has_no 47 part ≡ true) p ps free) later)
-  | false ↦ λ is later. absurd cc
-] refl h
+      | true ↦ λ is later.
+          All-cons IsPlainPart p ps (plain_from p is (All-head (λ part. has_no 47 part ≡ true) p ps free))
+          (none_bad (at + length p + 1) ps (All-tail (λ part. has_no 47 part ≡ true) p ps free) later)
+      | false ↦ λ is later. absurd cc
+    ] refl h
 
 all_plain : (at : ℕ) (ps : List (List ℕ)) → All IsPlainPart ps → first_bad at ps ≡ None
 all_plain at [] h = refl
@@ -106,29 +106,29 @@ cut : (start at : ℕ) (ps : List (List ℕ)) → All (λ part. has_no 47 part �
 cut start at [] free h = absurd cc
 cut start at (p ∷ ps) free h =
     elim (is_part p) as (λ t. is_part p ≡ t → cond t (first_bad (start + length p + 1) ps) (Some start) ≡ Some at → Cut start at (p ∷ ps)) [
-  | true ↦ λ is later.
-      let c = cut (start + length p + 1) at ps (All-tail (λ part. has_no 47 part ≡ true) p ps free) later in
-      record {
-        good = p ∷ c.good;
-        bad = c.bad;
-        after = c.after;
-        split = ap (λ (qs : List (List ℕ)). p ∷ qs) c.split;
-        plain = All-cons IsPlainPart p c.good (plain_from p is (All-head (λ part. has_no 47 part ≡ true) p ps free)) c.plain;
-        not_plain = c.not_plain;
-        place =
-            let far = c.place in omega (arith, length-append p (47 ∷ []), length-append (p ++ 47 ∷ []) (flat_map (λ (part : List ℕ). part ++ 47 ∷ []) c.good));
-      }
-  | false ↦ λ is now.
-      record {
-        good = [];
-        bad = p;
-        after = ps;
-        split = refl;
-        plain = All-nil IsPlainPart;
-        not_plain = λ plain. both_ways (is_part p) is (part_from p plain);
-        place = let same : start ≡ at = cc in omega arith;
-      }
-] refl h
+      | true ↦ λ is later.
+          let c = cut (start + length p + 1) at ps (All-tail (λ part. has_no 47 part ≡ true) p ps free) later in
+          record {
+            good = p ∷ c.good;
+            bad = c.bad;
+            after = c.after;
+            split = ap (λ (qs : List (List ℕ)). p ∷ qs) c.split;
+            plain = All-cons IsPlainPart p c.good (plain_from p is (All-head (λ part. has_no 47 part ≡ true) p ps free)) c.plain;
+            not_plain = c.not_plain;
+            place =
+                let far = c.place in omega (arith, length-append p (47 ∷ []), length-append (p ++ 47 ∷ []) (flat_map (λ (part : List ℕ). part ++ 47 ∷ []) c.good));
+          }
+      | false ↦ λ is now.
+          record {
+            good = [];
+            bad = p;
+            after = ps;
+            split = refl;
+            plain = All-nil IsPlainPart;
+            not_plain = λ plain. both_ways (is_part p) is (part_from p plain);
+            place = let same : start ≡ at = cc in omega arith;
+          }
+    ] refl h
 
 pub first_bad_is : (bytes : List ℕ) (at : ℕ) → first_bad 0 (parts bytes) ≡ Some at → IsFirstBad bytes at
 first_bad_is bytes at h =

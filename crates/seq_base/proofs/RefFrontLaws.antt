@@ -257,9 +257,9 @@ of_word word front more begins fits fit is =
 pub some_name : (s : RefFront) (front : List ℕ) → Stands s front → Named front
 some_name s front (before start all begins ne) =
     elim (or_cases (starts_with nat_eq (codes "refs/") front) (starts_with nat_eq (codes "HEAD") front) begins) [
-  | inl refs ↦ of_word (codes "refs/") front (97 ∷ []) refs refl refl refl
-  | inr head ↦ of_word (codes "HEAD") front [] head refl refl refl
-]
+      | inl refs ↦ of_word (codes "refs/") front (97 ∷ []) refs refl refl refl
+      | inr head ↦ of_word (codes "HEAD") front [] head refl refl refl
+    ]
 some_name s front (below w) =
     let e = char_ends w.text.broken (utf8-is_text [] refl) w.text.is_broken in
     record {

@@ -129,13 +129,13 @@ any_put : (test : List ℕ → Bool) (k v : List ℕ) (es : List (List ℕ × Li
 any_put test k v [] h = inl (or_false (test k) h)
 any_put test k v (e ∷ es) h =
     elim (path_cmp k e.0) as (λ o. path_cmp k e.0 ≡ o → list_any test (mapped (by_order o ((k, v) ∷ e ∷ es) ((e.0, v) ∷ es) (e ∷ put path_cmp k v es))) ≡ true → (test k ≡ true) ⊎ (test e.0 || list_any test (mapped es) ≡ true)) [
-  | Less ↦ λ _ h. either (test k) _ h
-  | Equal ↦ λ _ h. inr h
-  | Greater ↦ λ _ h. elim (either (test e.0) _ h) [
-    | inl here ↦ inr (rw here refl)
-    | inr there ↦ elim (any_put test k v es there) [ inl new ↦ inl new | inr old ↦ inr (or_right (test e.0) _ old) ]
-  ]
-] refl h
+      | Less ↦ λ _ h. either (test k) _ h
+      | Equal ↦ λ _ h. inr h
+      | Greater ↦ λ _ h. elim (either (test e.0) _ h) [
+        | inl here ↦ inr (rw here refl)
+        | inr there ↦ elim (any_put test k v es there) [ inl new ↦ inl new | inr old ↦ inr (or_right (test e.0) _ old) ]
+      ]
+    ] refl h
 
 -- a put elsewhere leaves a path free
 pub still_free : (w : World) (path bytes other : List ℕ) → is_blocked w other ≡ false → is_below other path ≡ false → is_below path other ≡ false

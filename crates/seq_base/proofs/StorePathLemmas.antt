@@ -26,9 +26,9 @@ none_bad : (at : ℕ) (ps : List (List ℕ)) → first_bad at ps ≡ None → li
 none_bad at [] h = refl
 none_bad at (p ∷ ps) h =
     elim (is_part p) as (λ t. is_part p ≡ t → cond t (first_bad (at + length p + 1) ps) (Some at) ≡ None → is_store_part p && list_all is_store_part ps ≡ true) [
-  | true ↦ λ part rest. both (is_store_part p) (list_all is_store_part ps) (good_part p part) (none_bad (at + length p + 1) ps rest)
-  | false ↦ λ part rest. absurd cc
-] refl h
+      | true ↦ λ part rest. both (is_store_part p) (list_all is_store_part ps) (good_part p part) (none_bad (at + length p + 1) ps rest)
+      | false ↦ λ part rest. absurd cc
+    ] refl h
 
 pub path_is_store_path : (bytes : List ℕ) → IsPath bytes → IsStorePath bytes
 path_is_store_path bytes path =

@@ -8,6 +8,6 @@ pub each_is_store_path : (paths : List (List ℕ)) → list_all is_store_path pa
 each_is_store_path [] h = tt
 each_is_store_path (path ∷ paths) h =
     elim (is_store_path path) as (λ t. is_store_path path ≡ t → t && list_all is_store_path paths ≡ true → IsStorePath path × AllByRecursion IsStorePath paths) [
-  | true ↦ λ good rest. (good, each_is_store_path paths rest)
-  | false ↦ λ bad rest. absurd cc
-] refl h
+      | true ↦ λ good rest. (good, each_is_store_path paths rest)
+      | false ↦ λ bad rest. absurd cc
+    ] refl h

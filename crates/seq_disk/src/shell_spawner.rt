@@ -27,7 +27,7 @@ impl<'a, 'b, R: Processes, F: Files + AllocGlobal + Clone + Drop> Spawner<DiskSt
     for ShellSpawner<'a, R> {
     ghost ran = { λ _ _ _. Unit {0} };
 
-    ghost faults = { λ spawner. spawner.faults };
+    ghost seen = { λ spawner. record { faults = spawner.faults; lender = 0 } };
 
     fn run(
         &mut self,

@@ -65,7 +65,7 @@ impl<S: Store> Spawner<S> for QuietSpawner {
 
     ghost ran = { λ before child after. RunsNext S.told before child after };
 
-    ghost faults = { λ _. 0 };
+    ghost seen = { λ _. record { faults = 0; lender = 0 } };
 
     fn run(&mut self, alloc: Global, store: &mut S, job: &Job) -> Result<Exit, ChildError> {
         let Ok(job) = copy_of_job(alloc, job) else {

@@ -70,7 +70,7 @@ impl<S: Store> Spawner<S> for ScriptSpawner {
 
     ghost ran = { λ before child after. RunsScripted S.told before child after };
 
-    ghost faults = { λ spawner. spawner.faults };
+    ghost seen = { λ spawner. record { faults = spawner.faults; lender = 0 } };
 
     fn run(&mut self, alloc: Global, store: &mut S, job: &Job) -> Result<Exit, ChildError> {
         let Ok(job) = copy_of_job(alloc, job) else {

@@ -13,7 +13,7 @@ use Rattle.seq_model.specs.declared.denial.Denial.{Denial}
 use Rattle.seq_model.specs.declared.denial.Denial.TheVariants as denied
 use Rattle.seq_model.specs.declared.usage.UsageFault.{UsageFault}
 use Rattle.seq_outside.specs.Causes.{Rose}
-use Rattle.seq_outside.specs.Seen.{Seen}
+use Rattle.seq_outside.specs.Seen.{HasFault, Seen}
 use Rattle.seq_outside.specs.Writes.{IsToward}
 use Rattle.seq_outside.specs.declared.env.Env.{Env}
 
@@ -175,8 +175,7 @@ HasOutcomeCause told (Done head) old new sink sink' = new.faults ≡ old.faults
 HasOutcomeCause told (Stopped kind paths) old new sink sink' = new.faults ≡ old.faults
 HasOutcomeCause told (Usage fault) old new sink sink' = new.faults ≡ old.faults
 HasOutcomeCause told (Refused refusal) old new sink sink' = new.faults ≡ old.faults
-HasOutcomeCause told StoreFault old new sink sink' =
-    (Rose old.faults new.faults ⊎ Rose old.blocked new.blocked) × (told → Rose old.faults new.faults)
+HasOutcomeCause told StoreFault old new sink sink' = HasFault told old new
 HasOutcomeCause told ChildFault old new sink sink' = ⊥
 HasOutcomeCause told OutputFault old new sink sink' = Rose sink sink'
 HasOutcomeCause told (Limit what number) old new sink sink' = new.faults ≡ old.faults

@@ -1,5 +1,5 @@
 -- What proofs see of a store, and what a call does to it.
-use Rattle.std.specs.Prelude.{◌≡◌, ℕ, ◌+◌, ◌≤◌, List, Result, Ok, Err}
+use Rattle.std.specs.Prelude.{◌≡◌, ◌⊎◌, ℕ, ◌+◌, ◌≤◌, List, Result, Ok, Err}
 use Rattle.seq_base.specs.World.{World}
 use Rattle.seq_outside.specs.Causes.{Rose}
 use Rattle.seq_outside.specs.declared.store.StoreError.{StoreError}
@@ -43,6 +43,15 @@ Stays told old new =
 -- whatever is done with a store, and whatever ends it
 abbrev pub Goes : Type 0 → Seen → Seen → Type 0
 Goes told old new = (old.faults ≤ new.faults) × Stays told old new
+
+-- the same, where a child may also have been run over the store that was lent
+abbrev pub Lasts : Seen → Seen → Type 0
+Lasts old new =
+    (old.faults ≤ new.faults) × (old.blocked ≤ new.blocked) × (new.lender ≡ old.lender) × (old.beneath_blocked ≤ new.beneath_blocked)
+
+-- Why a store failed: a count of its own rose, that of faults where it tells what it holds.
+abbrev pub HasFault : Type 0 → Seen → Seen → Type 0
+HasFault told old new = (Rose old.faults new.faults ⊎ Rose old.blocked new.blocked) × (told → Rose old.faults new.faults)
 
 -- A fault comes only where the count of faults rose, and a blocked put only where that of blocked puts did. No other end
 -- moves the count of faults, and neither count falls.

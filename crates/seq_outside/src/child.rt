@@ -1,8 +1,8 @@
 //! Children: programs that are run.
 
-ghost use Rattle.std.specs.Prelude.{◌≡◌, ℕ};
-ghost use Rattle.seq_outside.specs.Child.{HasChildCause, Noted, Runs};
-ghost use Rattle.seq_outside.specs.Seen.{Goes};
+ghost use Rattle.std.specs.Prelude.{◌≡◌, IsErrOf};
+ghost use Rattle.seq_outside.specs.Child.{HasChildCause, Noted, Runs, Spawns};
+ghost use Rattle.seq_outside.specs.Seen.{HasFault, Lasts};
 
 use crate::Store;
 use seq_base::Bytes;
@@ -23,6 +23,9 @@ pub enum Exit {
 pub enum ChildError {
     #[error("a child could not be run")]
     Failed,
+    /// The store failed before a child was run.
+    #[error("the repository's files could not be written")]
+    Store,
     #[error("out of memory")]
     Memory,
 }
@@ -75,13 +78,14 @@ pub trait Spawner<S: Store> {
     /// store's count of faults rose in the call or did not.
     ghost ran: { Self → Noted → Self → Type 0 };
 
-    /// How often it has failed.
-    ghost faults: { Self → ℕ };
+    /// What is seen of it.
+    ghost seen: { Self → Spawns };
 
     /// Starts a child at the root, waits for it and answers its exit. What the store then holds, also where the call failed or
     /// memory ran out, is what the child left.
     fn run(&mut self, alloc: Global, store: &mut S, job: &Job) -> Result<Exit, ChildError>
         ensures runs { Runs S.told ran job.now self.old (S.seen store.old) result self.new (S.seen store.new) }
-        ensures cause { HasChildCause result (faults self.old) (faults self.new) }
-        ensures store { Goes S.told (S.seen store.old) (S.seen store.new) };
+        ensures cause { HasChildCause result (seen self.old) (seen self.new) }
+        ensures store { Lasts (S.seen store.old) (S.seen store.new) }
+        ensures store_failed { IsErrOf result ChildError.Store → HasFault S.told (S.seen store.old) (S.seen store.new) };
 }

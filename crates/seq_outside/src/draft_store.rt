@@ -3,7 +3,7 @@
 ghost use Rattle.std.specs.Prelude.{◌≡◌, [], IfOk, IsErrOf, OnErr, OnOk, true};
 ghost use Rattle.seq_outside.specs.Child.{HasChildCause, Runs};
 ghost use Rattle.seq_outside.specs.Drafts.{is_draft};
-ghost use Rattle.seq_outside.specs.Seen.{Goes, MakesFront, Reads, Writes, drafting, made, store_cause};
+ghost use Rattle.seq_outside.specs.Seen.{Lasts, MakesFront, Reads, Writes, drafting, made, store_cause};
 ghost use Rattle.seq_outside.specs.Writes.{IsFront, are_free, objects_first, written};
 ghost use Rattle.seq_outside.specs.Laws.{drafted_paths, written_world};
 
@@ -95,8 +95,8 @@ impl<'a, S: Store> DraftStore<'a, S> {
         ensures on_the_way { S.told → OnErr result (MakesFront (S.seen self.old.store.now) self.old.changes.now (S.seen self.new.store.now)) }
         ensures not_blocked { S.told → IsErrOf result StoreError.Blocked → ⊥ }
         ensures cause { OnErr result (Writes S.told store_cause result (S.seen self.old.store.now) (S.seen self.new.store.now)) }
-        ensures child { IfOk result (λ exit. HasChildCause exit (P.faults spawner.old) (P.faults spawner.new)) }
-        ensures store { Goes S.told (S.seen self.old.store.now) (S.seen self.new.store.now) }
+        ensures child { IfOk result (λ exit. HasChildCause exit (P.seen spawner.old) (P.seen spawner.new)) }
+        ensures store { Lasts (S.seen self.old.store.now) (S.seen self.new.store.now) }
         ensures refused { self.new.refused ≡ self.old.refused }
         ensures same_reference { self.new.store.ghost_name ≡ self.old.store.ghost_name }
     {
@@ -143,5 +143,40 @@ impl<S: Store> Store for DraftStore<'_, S> {
         let files = self.store.list(alloc, folder)?;
         let paths = listed(alloc, self.changes, files, folder)?;
         Ok(paths)
+    }
+}
+
+/// Runs the children of a draft by a lent spawner: what was drafted is made first, and each child is run over that.
+#[derive(Drop)]
+pub struct DraftSpawner<'a, P> {
+    spawner: &'a mut P,
+}
+
+impl<'a, P> DraftSpawner<'a, P> {
+    /// By a spawner that is lent.
+    pub fn new(spawner: &'a mut P) -> DraftSpawner<'a, P>
+        ensures lent { result.spawner.now ≡ spawner.old }
+        ensures same_reference { result.spawner.ghost_name ≡ spawner.entry.ghost_name }
+    {
+        DraftSpawner { spawner }
+    }
+}
+
+impl<'a, 'b, S: Store, P: Spawner<S>> Spawner<DraftStore<'b, S>> for DraftSpawner<'a, P> {
+    ghost ran = { λ before child after. S.told → P.ran before.spawner.now child after.spawner.now };
+
+    ghost seen = { λ d. record { faults = (P.seen d.spawner.now).faults; lender = d.spawner.ghost_name } };
+
+    fn run(
+        &mut self,
+        alloc: Global,
+        store: &mut DraftStore<'b, S>,
+        job: &Job,
+    ) -> Result<Exit, ChildError> {
+        match store.make(alloc) {
+            Ok(()) => self.spawner.run(alloc, store.store, job),
+            Err(StoreError::Memory) => Err(ChildError::Memory),
+            Err(_) => Err(ChildError::Store),
+        }
     }
 }

@@ -21,7 +21,7 @@ mod write;
 pub use changes::Changes;
 pub use child::{ChildError, Exit, Job, Spawner, Words};
 pub use clock::Clock;
-pub use draft_store::DraftStore;
+pub use draft_store::{DraftSpawner, DraftStore};
 pub use env::{Env, Variables, is_zone};
 pub use halt::Halt;
 pub use lack::Lack;

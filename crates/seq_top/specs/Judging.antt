@@ -1,13 +1,12 @@
 -- What an invocation comes to before its outcome is printed.
-use Rattle.std.specs.Prelude.{◌≡◌, ◌⊎◌, Result, Ok, Err}
+use Rattle.std.specs.Prelude.{◌≡◌, Result, Ok, Err}
 use Rattle.seq_base.specs.Words.{Id}
 use Rattle.seq_base.specs.World.{World}
 use Rattle.seq_model.specs.Answers.{aimed, ended}
 use Rattle.seq_model.specs.declared.denial.Denial.{Denial}
 use Rattle.seq_model.specs.declared.outcome.Outcome.{Outcome}
 use Rattle.seq_model.specs.declared.outcome.Outcome.TheVariants.{StoreFault, ChildFault, OutputFault, Memory}
-use Rattle.seq_outside.specs.Causes.{Rose}
-use Rattle.seq_outside.specs.Seen.{Seen}
+use Rattle.seq_outside.specs.Seen.{HasFault, Seen}
 use Rattle.seq_outside.specs.Writes.{IsToward}
 use Rattle.seq_outside.specs.declared.halt.Halt.{Halt}
 use Rattle.seq_outside.specs.declared.halt.Halt.TheVariants as halts
@@ -26,10 +25,7 @@ Ends (Err (halts.Stops denial)) old means new = (means.0 ≡ Err denial) × (new
 Ends (Err halts.Fault) old means new = IsToward old (aimed old means) new
 Ends (Err halts.Memory) old means new = IsToward old (aimed old means) new
 
--- Why the store failed: a count of its own rose, that of faults where it tells what it holds. No other end moves that of faults.
-abbrev pub HasFault : Type 0 → Seen → Seen → Type 0
-HasFault told old new = (Rose old.faults new.faults ⊎ Rose old.blocked new.blocked) × (told → Rose old.faults new.faults)
-
+-- No other end than a failure of the store moves the count of faults.
 abbrev pub HasEndCause : {X E : Type 0} → Type 0 → Result X (Halt E) → Seen → Seen → Type 0
 HasEndCause told (Ok x) old new = new.faults ≡ old.faults
 HasEndCause told (Err (halts.Stops why)) old new = new.faults ≡ old.faults

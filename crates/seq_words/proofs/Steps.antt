@@ -281,14 +281,14 @@ with_value_follows s rules rows pending busy ys fit ok none = go (is_dashed ys) 
     by_long zs is None found h = tt
     by_long zs is (Some row) found h =
         elim (is_flag row.form) as (λ (b : Bool). is_flag row.form ≡ b → IfSome (if b then None else Some (gives row (after_first is_equals (45 ∷ ys)) any)) (Reaches s rows pending busy (45 ∷ ys))) [
-      | true ↦ λ form. tt
-      | false ↦ λ form.
-          let name : row.name ≡ before_first is_equals (45 ∷ ys) = (bytes_eq-Decides _ _).0 h.1 in
-          let other = other_name (before_first is_equals (45 ∷ ys)) row found h.1 in
-          subst (λ (t : Text). row.name ≡ before_first is_equals (45 ∷ t) → (row.name ≡ 45 ∷ t → ⊥)
-          → Follows s (settled_rows s.rules pending rows) (walk_at rows pending (waiting_at busy) false) (45 ∷ t) (gives row (after_first is_equals (45 ∷ t)) any))
-          (sym is) (long_with_value s rows pending busy zs row h.0 ok form) name other
-    ] refl
+          | true ↦ λ form. tt
+          | false ↦ λ form.
+              let name : row.name ≡ before_first is_equals (45 ∷ ys) = (bytes_eq-Decides _ _).0 h.1 in
+              let other = other_name (before_first is_equals (45 ∷ ys)) row found h.1 in
+              subst (λ (t : Text). row.name ≡ before_first is_equals (45 ∷ t) → (row.name ≡ 45 ∷ t → ⊥)
+              → Follows s (settled_rows s.rules pending rows) (walk_at rows pending (waiting_at busy) false) (45 ∷ t) (gives row (after_first is_equals (45 ∷ t)) any))
+              (sym is) (long_with_value s rows pending busy zs row h.0 ok form) name other
+        ] refl
 
     by_short : (o : Option Row) → is_dashed ys ≡ false → begins_with 61 (drop 2 (45 ∷ ys)) ≡ false → row_named rules (take 2 (45 ∷ ys)) ≡ o
         → IfSome o (λ row. Fits s.rules row × (bytes_eq row.name (take 2 (45 ∷ ys)) ≡ true))
@@ -296,9 +296,9 @@ with_value_follows s rules rows pending busy ys fit ok none = go (is_dashed ys) 
     by_short None bare lacks found h = tt
     by_short (Some row) bare lacks found h =
         elim (is_flag row.form) as (λ (b : Bool). is_flag row.form ≡ b → IfSome (if b then None else Some (gives row (drop 2 (45 ∷ ys)) any)) (Reaches s rows pending busy (45 ∷ ys))) [
-      | true ↦ λ form. tt
-      | false ↦ λ form. short_with_value s rows pending busy ys row h.0 ok form bare ((bytes_eq-Decides _ _).0 h.1) (other_name (take 2 (45 ∷ ys)) row found h.1) lacks
-    ] refl
+          | true ↦ λ form. tt
+          | false ↦ λ form. short_with_value s rows pending busy ys row h.0 ok form bare ((bytes_eq-Decides _ _).0 h.1) (other_name (take 2 (45 ∷ ys)) row found h.1) lacks
+        ] refl
 
     second : (zs : Text) → is_dashed zs ≡ true → zs ≡ 45 ∷ drop 1 zs
     second [] e = absurd (true≢false (sym e))

@@ -15,6 +15,6 @@ pub use fault::StageFault;
 pub use lookup::{tracked, tracked_from};
 pub use map::from_map;
 pub use mapping::to_map;
-pub use setting::set_stages;
+pub use setting::{push_stage, set_stages};
 pub use staged::staged_path;
 pub use unmerged_paths::unmerged;

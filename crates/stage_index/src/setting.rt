@@ -10,8 +10,8 @@ use index_file::IndexEntry;
 use seq_base::{Entry, Path, comes_before};
 use std::alloc::{AllocError, Global};
 
-/// What the path has at the stage, if it has something there.
-fn push_stage(
+/// Adds what a path has at a stage, if it has something there.
+pub fn push_stage(
     entries: &mut Vec<IndexEntry>,
     path: &Path,
     stage: u8,

@@ -89,7 +89,7 @@ module _ (R : List ℕ → Planned) where
           or_right false e = e
       at rest false u = rest
 
-  all_listed : (P : Planned → Type 0) (ps : List (List ℕ)) → AllByRecursion P (filter is_listed (map R ps)) → (j : ℕ) (d : List ℕ) → j < length ps
+  pub all_listed : (P : Planned → Type 0) (ps : List (List ℕ)) → AllByRecursion P (filter is_listed (map R ps)) → (j : ℕ) (d : List ℕ) → j < length ps
       → is_listed (R (get_or ps j d)) ≡ true → P (R (get_or ps j d))
   all_listed P [] h j d l is = absurd (omega arith)
   all_listed P (p ∷ ps) h zero d l is = at (is_listed (R p)) is h
@@ -104,7 +104,8 @@ module _ (R : List ℕ → Planned) where
       at true h = h.1
       at false h = h
 
-all_mapped : (P : Planned → Type 0) (f : Planned → Planned) (rows : List Planned) → AllByRecursion P (map f rows) → AllByRecursion (λ r. P (f r)) rows
+pub all_mapped : (P : Planned → Type 0) (f : Planned → Planned) (rows : List Planned) → AllByRecursion P (map f rows)
+    → AllByRecursion (λ r. P (f r)) rows
 all_mapped P f [] h = tt
 all_mapped P f (r ∷ rows) h = (h.0, all_mapped P f rows h.1)
 
@@ -170,7 +171,7 @@ module _ (b o t : Entries) (maps : AreMaps b o t) (calm : HasNoClash (plan_of b 
       at true e side both = apart_pair o p q maps.ours.apart both.0 e ne
       at false e side both = apart_pair t p q maps.theirs.apart both.1 side ne
 
-  pair_apart : (j k : ℕ) (d : List ℕ) → j < length ps → k < length ps → bytes_eq (get_or ps j d) (get_or ps k d) ≡ false → good (get_or ps j d)
+  pub pair_apart : (j k : ℕ) (d : List ℕ) → j < length ps → k < length ps → bytes_eq (get_or ps j d) (get_or ps k d) ≡ false → good (get_or ps j d)
       → good (get_or ps k d) → clashes (get_or ps j d) (get_or ps k d) ≡ false
   pair_apart j k d lj lk ne gj gk = at (is_listed (row_at b o t (get_or ps j d))) refl (is_listed (row_at b o t (get_or ps k d))) refl
     where

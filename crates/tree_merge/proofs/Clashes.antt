@@ -184,12 +184,12 @@ pub marks_set : (old marks : List Bool) (t : ℕ → Bool) (j n : ℕ) → lengt
     → get_or (set marks j true) k false ≡ (get_or old k false || (ltb k (j + 1) && t k))
 marks_set old marks t j n len within here is k l =
     elim (eqb k j) as (λ y. eqb k j ≡ y → get_or (set marks j true) k false ≡ (get_or old k false || (ltb k (j + 1) && t k))) [
-  | true ↦ λ f.
-      let same = (Decides-eqb k j).0 f in
-      let k' : t k ≡ true = ap t same ∙ here in
-      let m : get_or (set marks j true) k false ≡ true = ap (λ (i : ℕ). get_or (set marks j true) i false) same ∙ get_or-set_same marks j true false (omega arith) in
-      m ∙ or_true (get_or old k false) ∙ rw (below_test k (j + 1) (omega arith), k') refl
-  | false ↦ λ f.
-      let ne : k ≢ j = (λ q. let o = (Decides-eqb k j).1 q in cc) in
-      get_or-set_other marks j k true false ne ∙ marks_kept (get_or old k false) (get_or marks k false) (t k) k j (is k l) (λ q. absurd (ne q))
-] refl
+      | true ↦ λ f.
+          let same = (Decides-eqb k j).0 f in
+          let k' : t k ≡ true = ap t same ∙ here in
+          let m : get_or (set marks j true) k false ≡ true = ap (λ (i : ℕ). get_or (set marks j true) i false) same ∙ get_or-set_same marks j true false (omega arith) in
+          m ∙ or_true (get_or old k false) ∙ rw (below_test k (j + 1) (omega arith), k') refl
+      | false ↦ λ f.
+          let ne : k ≢ j = (λ q. let o = (Decides-eqb k j).1 q in cc) in
+          get_or-set_other marks j k true false ne ∙ marks_kept (get_or old k false) (get_or marks k false) (t k) k j (is k l) (λ q. absurd (ne q))
+    ] refl

@@ -6,7 +6,8 @@ use Rattle.seq_base.specs.declared.map.Entry.{Entry}
 use Rattle.seq_base.specs.declared.mode.Mode.{Mode}
 use Rattle.seq_base.specs.declared.mode.Mode.TheVariants.{Folder}
 use Rattle.seq_base.specs.PathMaps.{HoldsFiles, IsPathMap, entry_at, same_entry}
-use Rattle.tree_merge.specs.declared.rules.Choice.TheVariants.{Take, Conflict}
+use Rattle.tree_merge.specs.declared.rules.Choice.{Choice}
+use Rattle.tree_merge.specs.declared.rules.Choice.TheVariants.{Take, Content, Conflict}
 use Rattle.tree_merge.specs.Choices.{agreed, is_file_mode, same_mode}
 use Rattle.tree_merge.specs.Choosing.{by_parts, changed, choice, may_be_file, merged_files, merged_id, merged_mode}
 use Rattle.tree_merge.specs.Plans.{Entries, paths_of, plan_of}
@@ -14,13 +15,13 @@ use Rattle.tree_merge.specs.Results.{conflict_in, result_of, taken, taken_at}
 use Rattle.tree_merge.proofs.Apart.{result_apart}
 use Rattle.tree_merge.proofs.Taking.{all_taken, no_clash, result_ascending, with_taken}
 
-abbrev IsFile : Mode → Type 0
+abbrev pub IsFile : Mode → Type 0
 IsFile m = m ≡ Folder → ⊥
 
-abbrev MayBeFile : Option Entry → Type 0
+abbrev pub MayBeFile : Option Entry → Type 0
 MayBeFile v = (e : Entry) → v ≡ Some e → IsFile e.mode
 
-file_at : (es : Entries) (p : List ℕ) → HoldsFiles es → MayBeFile (entry_at es p)
+pub file_at : (es : Entries) (p : List ℕ) → HoldsFiles es → MayBeFile (entry_at es p)
 file_at [] p h e is = absurd cc
 file_at (d ∷ es) p h e is = at (file_at es p h.1 e) (bytes_eq d.0 p) is
   where
@@ -87,3 +88,36 @@ result_map b o t base ours theirs calm = record {
   files =
       all_files (taken_at b o t) (λ p. taken_file (entry_at b p) (entry_at o p) (entry_at t p) (file_at o p ours.files) (file_at t p theirs.files)) (paths_of (b ++ o ++ t));
 }
+
+-- ---- the same of each choice
+
+-- what is taken, or merged, is no folder
+abbrev pub HasFile : Choice → Type 0
+HasFile (Take entry) = MayBeFile entry
+HasFile (Content mode clean) = IsFile mode
+HasFile (Conflict file) = MayBeFile file
+
+files_choice : (b : Option Entry) (o t : Entry) → IsFile o.mode → IsFile t.mode → HasFile (merged_files b o t)
+files_choice b o t fo ft = at (merged_id b o t) (merged_mode b o t) refl
+  where
+    at : (i : Option (List ℕ)) (m : Option Mode) → merged_mode b o t ≡ m → HasFile (by_parts o.mode i m)
+    at (Some id) (Some mode) here = λ e is. let k : mode ≡ e.mode = cc in subst IsFile k (mode_side b o t mode fo ft here)
+    at (Some id) None here = λ e is. let k : o.mode ≡ e.mode = cc in subst IsFile k fo
+    at None (Some mode) here = mode_side b o t mode fo ft here
+    at None None here = fo
+
+changed_choice : (b o t : Option Entry) → MayBeFile o → MayBeFile t → HasFile (changed b o t)
+changed_choice b None t fo ft = ft
+changed_choice b (Some o) None fo ft = fo
+changed_choice b (Some o) (Some t) fo ft = at (may_be_file b && (is_file_mode o.mode && is_file_mode t.mode))
+  where
+    at : (u : Bool) → HasFile (cond u (merged_files b o t) (Conflict (Some o)))
+    at true = files_choice b o t (fo o refl) (ft t refl)
+    at false = fo
+
+pub choice_file : (b o t : Option Entry) → MayBeFile o → MayBeFile t → HasFile (choice b o t)
+choice_file b o t fo ft = at (agreed same_entry b o t) refl
+  where
+    at : (a : Option (Option Entry)) → agreed same_entry b o t ≡ a → HasFile (option_map_or Take a (changed b o t))
+    at (Some x) is = agreed_side MayBeFile same_entry b o t x fo ft is
+    at None is = changed_choice b o t fo ft

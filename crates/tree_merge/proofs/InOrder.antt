@@ -5,7 +5,7 @@ use Rattle.std.specs.List.{AllByRecursion}
 use Rattle.std.specs.Str.{bytes_eq}
 use Rattle.seq_base.specs.PathMaps.{is_less}
 use Rattle.tree_merge.specs.declared.plans.Planned.{Planned}
-use Rattle.tree_merge.specs.Plans.{AreInOrder, Entries, is_listed, listed, paths_of, row_at, with_path}
+use Rattle.tree_merge.specs.Plans.{AreInOrder, Entries, all_rows, is_listed, listed, paths_of, row_at, with_path}
 use Rattle.tree_merge.proofs.Order.{less_trans, otherwise_less}
 
 abbrev pub Ascends : List (List ℕ) → Type 0
@@ -80,3 +80,16 @@ in_order (r ∷ rs) h (suc j) (suc k) d l m = in_order rs h.1 j k d (omega arith
 -- the rows of three maps are in order
 pub listed_in_order : (b o t : Entries) → AreInOrder (listed b o t)
 listed_in_order b o t = in_order (listed b o t) (rows_kept b o t (paths_of (b ++ o ++ t)) (ascends_paths (b ++ o ++ t)))
+
+all_mapped : (p : List ℕ) (b o t : Entries) (ps : List (List ℕ)) → AllByRecursion (λ q. is_less p q ≡ true) ps
+    → AllByRecursion (λ s. is_less p s.path ≡ true) (map (row_at b o t) ps)
+all_mapped p b o t [] h = tt
+all_mapped p b o t (q ∷ ps) h = (h.0, all_mapped p b o t ps h.1)
+
+rows_mapped : (b o t : Entries) (ps : List (List ℕ)) → Ascends ps → RowsAscend (map (row_at b o t) ps)
+rows_mapped b o t [] h = tt
+rows_mapped b o t (q ∷ ps) h = (all_mapped q b o t ps h.0, rows_mapped b o t ps h.1)
+
+-- so are those of all paths
+pub all_in_order : (b o t : Entries) → AreInOrder (all_rows b o t)
+all_in_order b o t = in_order (all_rows b o t) (rows_mapped b o t (paths_of (b ++ o ++ t)) (ascends_paths (b ++ o ++ t)))

@@ -9,3 +9,4 @@ pub mod Marking
 pub mod Apart
 pub mod Taking
 pub mod Files
+pub mod Whole

@@ -19,13 +19,13 @@ pub upper_more : (rows : List Planned) (uppers : List Bool) (found : Bool) (i : 
     → ((k : ℕ) (d : Planned) → k < i → get_or uppers k false ≡ is_upper rows (get_or rows k d)) → (k : ℕ) (d : Planned) → k < i + 1 → get_or (set uppers i found) k false ≡ is_upper rows (get_or rows k d)
 upper_more rows uppers found i within here before k d l =
     elim (eqb k i) as (λ t. eqb k i ≡ t → get_or (set uppers i found) k false ≡ is_upper rows (get_or rows k d)) [
-  | true ↦ λ e.
-      let same = (Decides-eqb k i).0 e in
-      ap (λ (j : ℕ). get_or (set uppers i found) j false) same ∙ get_or-set_same uppers i found false within ∙ here d ∙ ap (λ (j : ℕ). is_upper rows (get_or rows j d)) (sym same)
-  | false ↦ λ e.
-      let ne : k ≢ i = (λ q. let o = (Decides-eqb k i).1 q in cc) in
-      get_or-set_other uppers i k found false ne ∙ before k d (omega (arith, ne))
-] refl
+      | true ↦ λ e.
+          let same = (Decides-eqb k i).0 e in
+          ap (λ (j : ℕ). get_or (set uppers i found) j false) same ∙ get_or-set_same uppers i found false within ∙ here d ∙ ap (λ (j : ℕ). is_upper rows (get_or rows j d)) (sym same)
+      | false ↦ λ e.
+          let ne : k ≢ i = (λ q. let o = (Decides-eqb k i).1 q in cc) in
+          get_or-set_other uppers i k found false ne ∙ before k d (omega (arith, ne))
+    ] refl
 
 pub lower_more : (rows : List Planned) (old new : List Bool) (i : ℕ) → i < length rows
     → ((k : ℕ) (d : Planned) → k < length rows → get_or new k false ≡ (get_or old k false || is_under (get_or rows i d) (get_or rows k d)))

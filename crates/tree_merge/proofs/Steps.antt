@@ -6,7 +6,7 @@ use Rattle.std.specs.Str.{bytes_eq}
 use Rattle.seq_base.specs.declared.map.Entry.{Entry}
 use Rattle.seq_base.specs.PathMaps.{IsAscending, entry_at, is_less}
 use Rattle.tree_merge.specs.declared.plans.Planned.{Planned}
-use Rattle.tree_merge.specs.Plans.{Entries, is_listed, listed, paths_of, row_at, row_of}
+use Rattle.tree_merge.specs.Plans.{Entries, all_rows, is_listed, listed, paths_of, row_at, row_of}
 use Rattle.tree_merge.specs.Walks.{after, head_entry, head_path, lesser}
 use Rattle.tree_merge.proofs.Order.{not_both_less, less_apart, less_or_same, same_is, same_self}
 use Rattle.tree_merge.proofs.Firsts.{Behind, NoneBefore, all_paths, filter_append, first_of, has, head_of, without}
@@ -57,11 +57,14 @@ head_none [] e = refl
 head_none (x ∷ es) e = absurd cc
 
 -- where no map has a path left, no row is left
-pub listed_none : (b o t : Entries) → lesser (lesser (head_path b) (head_path o)) (head_path t) ≡ None → listed b o t ≡ []
-listed_none b o t e =
+pub all_none : (b o t : Entries) → lesser (lesser (head_path b) (head_path o)) (head_path t) ≡ None → all_rows b o t ≡ []
+all_none b o t e =
     let k = lesser_none (lesser (head_path b) (head_path o)) (head_path t) e in
     let m = lesser_none (head_path b) (head_path o) k.0 in
     rw (head_none b m.0, head_none o m.1, head_none t k.1) refl
+
+pub listed_none : (b o t : Entries) → lesser (lesser (head_path b) (head_path o)) (head_path t) ≡ None → listed b o t ≡ []
+listed_none b o t e = ap (filter is_listed) (all_none b o t e)
 
 -- p is the least of the first paths
 record Least (b o t : Option (List ℕ)) (p : List ℕ) : Type 0 where
@@ -170,6 +173,7 @@ pub record InOrder (b o t : Entries) : Type 0 where
 
 -- what one step leaves
 pub record Stepped (b o t : Entries) (p : List ℕ) : Type 0 where
+  pub all : all_rows b o t ≡ row_of p (head_entry b p) (head_entry o p) (head_entry t p) ∷ all_rows (after b p) (after o p) (after t p)
   pub rows : listed b o t ≡ with_row (row_of p (head_entry b p) (head_entry o p) (head_entry t p)) (listed (after b p) (after o p) (after t p))
   pub paths : paths_of (b ++ o ++ t) ≡ p ∷ paths_of (after b p ++ after o p ++ after t p)
   pub behind : AllByRecursion (λ q. is_less p q ≡ true) (paths_of (after b p ++ after o p ++ after t p))
@@ -201,10 +205,13 @@ step b o t p h e =
     let behind : AllByRecursion (λ q. is_less p q ≡ true) (paths_of left) =
     all_paths (λ q. is_less p q ≡ true) left (behind_append p (after b p ++ after o p) (after t p) (behind_append p (after b p) (after o p) hb.behind ho.behind) ht.behind) in
     let row : row_at b o t p ≡ row_of p (head_entry b p) (head_entry o p) (head_entry t p) = λ i. row_of p (hb.entry i) (ho.entry i) (ht.entry i) in
+    let all_are : all_rows b o t ≡ row_of p (head_entry b p) (head_entry o p) (head_entry t p) ∷ all_rows (after b p) (after o p) (after t p) =
+    ap (λ (ps : List (List ℕ)). map (row_at b o t) ps) paths
+    ∙ ap (λ (rs : List Planned). row_at b o t p ∷ rs) (rows_after b o t p (paths_of left) behind)
+    ∙ ap (λ (r : Planned). r ∷ all_rows (after b p) (after o p) (after t p)) row in
     record {
-      rows = ap (λ (ps : List (List ℕ)). filter is_listed (map (row_at b o t) ps)) paths
-          ∙ ap (λ (rs : List Planned). with_row (row_at b o t p) (filter is_listed rs)) (rows_after b o t p (paths_of left) behind)
-          ∙ ap (λ (r : Planned). with_row r (listed (after b p) (after o p) (after t p))) row;
+      all = all_are;
+      rows = ap (filter is_listed) all_are;
       paths = paths;
       behind = behind;
       base = hb.entry;
@@ -234,3 +241,9 @@ skipped rows rest left all row made is next same failed =
     let k : is_listed row ≡ false = sym (ap is_listed same) ∙ failed in
     let n : left ≡ rest = next ∙ ap (λ (t : Bool). cond t (row ∷ rest) rest) k in
     ap (λ (l : List Planned). rows ++ l) (sym n) ∙ is
+
+-- each row is next
+pub next_row : (rows rest left all : List Planned) (row made : Planned) → rows ++ left ≡ all → left ≡ row ∷ rest → made ≡ row
+    → rows ++ made ∷ [] ++ rest ≡ all
+next_row rows rest left all row made is next same =
+    append_assoc rows (made ∷ []) rest ∙ ap (λ (r : Planned). rows ++ (r ∷ rest)) same ∙ ap (λ (l : List Planned). rows ++ l) (sym next) ∙ is

@@ -4,4 +4,3 @@ pub mod Plans
 pub mod Walks
 pub mod Marks
 pub mod Results
-pub mod Merging

@@ -50,9 +50,13 @@ row_at base ours theirs path = row_of path (entry_at base path) (entry_at ours p
 abbrev pub is_listed : Planned → Bool
 is_listed row = not (same_entry row.base row.ours && same_entry row.ours row.theirs)
 
+-- the paths of the maps, in order
+abbrev pub all_rows : Entries → Entries → Entries → List Planned
+all_rows base ours theirs = map (row_at base ours theirs) (paths_of (base ++ ours ++ theirs))
+
 -- the paths whose three entries are not all equal, in order
 abbrev pub listed : Entries → Entries → Entries → List Planned
-listed base ours theirs = filter is_listed (map (row_at base ours theirs) (paths_of (base ++ ours ++ theirs)))
+listed base ours theirs = filter is_listed (all_rows base ours theirs)
 
 -- both paths have an entry after the merge, and the second lies below the first
 abbrev pub is_under : Planned → Planned → Bool
@@ -73,6 +77,10 @@ marked rows row = record row { clash = is_upper rows row || is_lower rows row; w
 -- the plan: what is made of each path whose three entries are not all equal, in order
 abbrev pub plan_of : Entries → Entries → Entries → List Planned
 plan_of base ours theirs = map (marked (listed base ours theirs)) (listed base ours theirs)
+
+-- the same of each path of the maps: one whose three entries are equal is taken as it is
+abbrev pub whole_plan_of : Entries → Entries → Entries → List Planned
+whole_plan_of base ours theirs = map (marked (all_rows base ours theirs)) (all_rows base ours theirs)
 
 -- each path comes before those that follow
 abbrev pub AreInOrder : List Planned → Type 0

@@ -14,5 +14,5 @@ pub use laws::{
     sides_can_be_exchanged,
 };
 pub use merged::{conflict, merged_map};
-pub use plans::{MergePlan, Planned, PlannedPaths, plan};
+pub use plans::{MergePlan, Planned, PlannedPaths, plan, whole_plan};
 pub use rules::{Choice, three_way};

@@ -1,11 +1,11 @@
 //! What a three-way merge of maps is to do at each path.
 
 ghost use Rattle.std.specs.Prelude.{◌≡◌, IfOk};
-ghost use Rattle.tree_merge.specs.Plans.{plan_of};
+ghost use Rattle.tree_merge.specs.Plans.{plan_of, whole_plan_of};
 
 use crate::clash::{mark_rows, marks_of};
 use crate::rules::Choice;
-use crate::walk::listed_rows;
+use crate::walk::{all_rows, listed_rows};
 use seq_base::{Entry, Path, PathMap};
 use std::alloc::{AllocError, Global};
 use std::marker::Model;
@@ -76,6 +76,23 @@ pub fn plan(
     ensures { IfOk result (λ plan. plan.paths ≡ plan_of base.now ours.now theirs.now) }
 {
     let mut rows = listed_rows(alloc, base, ours, theirs)?;
+    let marks = marks_of(alloc, &rows)?;
+    mark_rows(&mut rows, &marks.uppers, &marks.lowers);
+    Ok(MergePlan {
+        paths: PlannedPaths::from_vec(rows),
+    })
+}
+
+/// The same of each path of the maps: one whose three entries are equal is taken as it is.
+pub fn whole_plan(
+    alloc: Global,
+    base: &PathMap,
+    ours: &PathMap,
+    theirs: &PathMap,
+) -> Result<MergePlan, AllocError>
+    ensures { IfOk result (λ plan. plan.paths ≡ whole_plan_of base.now ours.now theirs.now) }
+{
+    let mut rows = all_rows(alloc, base, ours, theirs)?;
     let marks = marks_of(alloc, &rows)?;
     mark_rows(&mut rows, &marks.uppers, &marks.lowers);
     Ok(MergePlan {

@@ -3,7 +3,7 @@
 ghost use Rattle.std.specs.Prelude.{◌≡◌, IfOk, OnOk};
 ghost use Rattle.std.specs.Option.{option_copied};
 ghost use Rattle.seq_base.specs.PathMaps.{is_less};
-ghost use Rattle.tree_merge.specs.Plans.{AreInOrder, is_listed, is_present, listed, row_of};
+ghost use Rattle.tree_merge.specs.Plans.{AreInOrder, all_rows as all_rows_of, is_listed, is_present, listed, row_of};
 ghost use Rattle.tree_merge.specs.Walks.{head_path, lesser};
 
 use crate::cursor::Cursor;
@@ -37,6 +37,32 @@ pub(crate) fn listed_rows(
         if is_row_listed(&row) {
             rows.push(row)?;
         }
+    }
+    Ok(rows)
+}
+
+/// All paths of the maps, in order, as if none clashed with another.
+pub(crate) fn all_rows(
+    alloc: Global,
+    base: &PathMap,
+    ours: &PathMap,
+    theirs: &PathMap,
+) -> Result<Vec<Planned>, AllocError>
+    ensures rows { IfOk result (λ rows. rows.items ≡ all_rows_of base.now ours.now theirs.now) }
+    ensures order { IfOk result (λ rows. AreInOrder rows.items) }
+{
+    let mut rows = Vec::new(alloc);
+    let mut base_left = Cursor::new(base);
+    let mut ours_left = Cursor::new(ours);
+    let mut theirs_left = Cursor::new(theirs);
+    while let Some(path) = least_path(&base_left, &ours_left, &theirs_left) {
+        let row = row(
+            copy_of(path)?,
+            base_left.take(path),
+            ours_left.take(path),
+            theirs_left.take(path),
+        );
+        rows.push(row)?;
     }
     Ok(rows)
 }

@@ -61,10 +61,6 @@ row_was e old new is = at (row_writes old e) refl is
 
 -- ---- paths one after another
 
-front_then : (ws more : List Write) (w : World) (first rest : Result (List Write) Lack) → first ≡ Ok ws → rest ≡ Ok more
-    → (first >>= λ a. (rest >>= λ b. Ok (a ++ b))) ≡ Ok (ws ++ more)
-front_then ws more w first rest is also = rw (is, also) refl
-
 rows_one : (w : World) (e : Path × Entry) (es : Entries) (ws more : List Write) → row_writes w e ≡ Ok ws → rows_writes (written w ws) es ≡ Ok more
     → rows_writes w (e ∷ es) ≡ Ok (ws ++ more)
 unfolding rows_writes

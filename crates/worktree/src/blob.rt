@@ -16,7 +16,7 @@ use sha1::Sha1;
 use std::alloc::Global;
 
 /// The id of the blob with these bytes, whose text `blob <length> NUL <bytes>` is hashed in pieces (git-hash-object(1)).
-pub(crate) fn blob_id_of(bytes: &[u8]) -> Id
+pub fn blob_id_of(bytes: &[u8]) -> Id
     ensures { result ≡ blob_id bytes.now }
 {
     let mut buffer = Buffer::new();
@@ -50,7 +50,7 @@ fn blob_in(id: Id, object: Object) -> Result<Bytes, Halt<Lack>>
 
 /// The bytes of a blob. Object where it is missing, damaged or of another kind, Limit where it is too large.
 #[tactic(auto, unfolding(crate::specs::Blobs::blob_named))]
-pub(crate) fn read_blob<S: Store>(alloc: Global, store: &mut S, id: Id) -> Result<Bytes, Halt<Lack>>
+pub fn read_blob<S: Store>(alloc: Global, store: &mut S, id: Id) -> Result<Bytes, Halt<Lack>>
     ensures gives { S.told → Gives (λ bytes. bytes) result (blob_named (S.seen store.old).content id) }
     ensures reads { Reads S.told halt_cause result (S.seen store.old) (S.seen store.new) }
 {

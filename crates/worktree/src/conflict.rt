@@ -18,9 +18,9 @@ use seq_outside::{Halt, Lack, Store};
 use stage_index::ConflictFile;
 use std::alloc::Global;
 
-/// Stops at the first path in whose way an untracked file is.
+/// Stops at the first path that a conflict would write where an untracked file is in its way.
 #[tactic(auto, unfolding(crate::specs::Conflicts::unbarred))]
-fn stop_barred<S: Store>(
+pub fn stop_barred<S: Store>(
     alloc: Global,
     store: &mut S,
     from: &[IndexEntry],
@@ -41,9 +41,9 @@ fn stop_barred<S: Store>(
     }
 }
 
-/// Leaves the conflict where no untracked file is in the way.
+/// Leaves a conflict where `stop_barred` does not stop. It is `write_conflict` behind that.
 #[tactic(auto, unfolding(crate::specs::ConflictTurns::conflicted_clear), using(crate::proofs::Owning::own_none, crate::proofs::Owning::own_store_paths))]
-fn write_clear<S: Store>(
+pub fn write_conflict_clear<S: Store>(
     alloc: Global,
     store: &mut S,
     from: &[IndexEntry],
@@ -83,5 +83,5 @@ pub fn write_conflict<S: Store>(
     ensures writes { Writes S.told halt_cause result (S.seen store.old) (S.seen store.new) }
 {
     stop_barred(alloc, store, from, index, files)?;
-    write_clear(alloc, store, from, index, files)
+    write_conflict_clear(alloc, store, from, index, files)
 }

@@ -15,10 +15,11 @@ mod room;
 mod switching;
 mod writes;
 
+pub use blob::{blob_id_of, read_blob};
 pub use changed::first_change;
-pub use conflict::write_conflict;
+pub use conflict::{stop_barred, write_conflict, write_conflict_clear};
 pub use make::make_writes;
-pub use reset::reset_hard;
+pub use reset::{check_rows, reset_hard};
 pub use stage_index::ConflictFile;
 pub use switching::{obstructed_path, switch, switch_clear};
 pub use writes::clear_writes;

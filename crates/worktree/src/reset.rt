@@ -46,8 +46,8 @@ fn check_row<S: Store>(alloc: Global, store: &mut S, entry: &IndexEntry) -> Resu
     check_blob(alloc, store, entry)
 }
 
-/// Reads the blobs of all entries, one at a time.
-fn check_rows<S: Store>(
+/// Reads the blobs of all entries, one at a time; the first that cannot be read is lacked.
+pub fn check_rows<S: Store>(
     alloc: Global,
     store: &mut S,
     index: &[IndexEntry],

@@ -16,13 +16,13 @@ overflow_sub-text c =
     left_within IsConfig (read_from (fed start)) config_reads c.args.text.now c.in-Err-Stopped.left
     (subst (λ (d : ReadError). Fails d (read_from (fed start) c.args.text.now)) c.in-Err-Stopped.field-0-is c.in-Err-Stopped.ensures)
 
-pub returns-in-Ok : goal.returns-in-Ok
-returns-in-Ok c =
+pub returns-in-Ok-clause-reads : goal.returns-in-Ok-clause-reads
+returns-in-Ok-clause-reads c =
     let k = read_whole IsConfig (read_from (fed start)) config_reads c.args.text.now c.in-Ok.settings.items c.in-Ok.ensures in
     subst (λ (x : List Setting). IsConfig x c.args.text.now × ((y : List Setting) → IsConfig y c.args.text.now → y ≡ x)) (sym c.from_settings.ensures) k
 
-pub returns-in-Err-Stopped : goal.returns-in-Err-Stopped
-returns-in-Err-Stopped c =
+pub returns-in-Err-Stopped-clause-reads : goal.returns-in-Err-Stopped-clause-reads
+returns-in-Err-Stopped-clause-reads c =
     let bad =
     first_bad IsConfig (read_from (fed start)) config_reads c.args.text.now c.in-Err-Stopped.left
     (subst (λ (d : ReadError). Fails d (read_from (fed start) c.args.text.now)) c.in-Err-Stopped.field-0-is c.in-Err-Stopped.ensures) in
