@@ -44,6 +44,48 @@ def add_git(cases):
         cases.add("reached", [*fields, len(tips), *tips, *asked], [id in found for id in asked])
 
 
+def postorder(parents, excluded, tips):
+    """The commits that the tips reach and that are not excluded, each behind its parents, which come in their order."""
+    met = []
+
+    def visit(found):
+        if found in excluded or found in met:
+            return
+        for parent in parents[found]:
+            visit(parent)
+        met.append(found)
+
+    for tip in tips:
+        visit(tip)
+    return met
+
+
+def add_ranges(cases):
+    cases.group(
+        "Excluded commits and tips: the commits that `git rev-list` prints of them, in the order of a walk from the tips: a commit behind its parents, which",
+        "come in their order. The order is by that rule, which is not git's.",
+    )
+    repository = Repository()
+    tree = repository.put("tree", b"")
+    pick = chooser("ranges")
+    for number in range(60):
+        names = {}
+        count = pick.randint(1, 24)
+        for at in range(count):
+            older = list(names)
+            chosen = pick.sample(older[-6:], min(len(older[-6:]), pick.choice([0, 1, 1, 1, 1, 2, 2, 3])))
+            names[repository.commit(tree, chosen, f"range {number} {at}\n".encode())] = chosen
+        fields = [len(names), *(field for found, parents in names.items() for field in (found, len(parents), *parents))]
+        for _ in range(3):
+            excluded = pick.sample(list(names), min(len(names), pick.choice([0, 1, 1, 1, 2])))
+            tips = pick.choices(list(names), k=pick.choice([1, 1, 1, 2, 3]))
+            out = set(repository.git("rev-list", *excluded).decode().split()) if excluded else set()
+            found = postorder(names, out, tips)
+            if set(found) != set(repository.git("rev-list", *tips, *("^" + other for other in excluded)).decode().split()):
+                raise RuntimeError(f"git lists other commits for {tips} without {excluded}")
+            cases.add("range", [*fields, len(excluded), *excluded, *tips], ["range", *found])
+
+
 def add_rules(cases):
     cases.group("What is not added: a commit that is there, and one with a parent that is not, the first such parent. By the written rule.")
     a, b, c = (number_id(number) for number in (1, 2, 3))
@@ -64,4 +106,5 @@ def add_rules(cases):
 
 def add(cases):
     add_git(cases)
+    add_ranges(cases)
     add_rules(cases)

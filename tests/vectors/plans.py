@@ -1,6 +1,7 @@
 """Cases of todo_plan: the todo that `git rebase -i` hands to the editor."""
 
 from .cases import Repository, chooser
+from .graphs import postorder
 from .todos import canonical, parsed
 
 
@@ -96,6 +97,33 @@ def add_linear(cases):
     for subject, note in [(b" \t a \t ", b"a"), (b"a\r", b"a"), (b"\r a\tb \r\r", b"a\tb"), (b" \r\t", b""), (b"", b""), (b"# a", b"# a"), (b"#", b"#")]:
         found = "1" * 40
         cases.add("plan-linear", [1, found, 0, subject, found], ["lines", 1, "pick", found.encode(), note])
+    cases.group("A graph with subjects and a range: what `git rebase -i --autosquash` hands to the editor.")
+    for history, upstream, branch in made:
+        cases.add("autosquash", [*history.fields(), *history.range(upstream, branch)], answer(history.todo(upstream, branch, "--autosquash")))
+    history = History()
+    upstream = history.commit("base", [], b"base")
+    history.commit("a", ["base"], b"a")
+    moved = history.commit("b", ["a"], b"fixup! a")
+    history.commit("c", ["b"], b"squash! " + moved[:12].encode())
+    branch = history.commit("d", ["c"], b"fixup! a")
+    lines = history.todo(upstream, branch, "--autosquash")
+    cases.add("autosquash", [*history.fields(), *history.range(upstream, branch)], answer(lines))
+    cases.group(
+        "A commit is meant for the first earlier one with the subject behind all words, else the first whose hex digits begin so, four or more, else the first whose",
+        "subject begins so. It is moved behind that and behind what was moved there before, and stays where there is none. By that rule.",
+    )
+    for subjects, wanted in [
+        ([b"one", b"two", b"fixup! one", b"squash! fixup! one"], [(0, "pick"), (2, "fixup"), (3, "squash"), (1, "pick")]),
+        ([b"one", b"amend! one", b"two", b"fixup! two", b"squash! one"], [(0, "pick"), (1, "fixup-keep"), (4, "squash"), (2, "pick"), (3, "fixup")]),
+        ([b"fixup! one", b"one", b"one more"], [(0, "pick"), (1, "pick"), (2, "pick")]),
+        ([b"one more", b"one", b"fixup! one", b"fixup! one m"], [(0, "pick"), (3, "fixup"), (1, "pick"), (2, "fixup")]),
+        ([b"a", b"b", b"fixup! 2222", b"fixup! 111", b"fixup! 3333", b"x"], [(0, "pick"), (1, "pick"), (2, "fixup"), (4, "fixup"), (3, "pick"), (5, "pick")]),
+        ([b"1111", b"b", b"1111c", b"fixup! 1111", b"fixup! "], [(0, "pick"), (3, "fixup"), (4, "fixup"), (1, "pick"), (2, "pick")]),
+    ]:
+        found = [str(number + 1) * 40 for number in range(len(subjects))]
+        rows = [field for at, subject in enumerate(subjects) for field in (found[at], 0 if at == 0 else 1, *found[at - 1 : at], subject)]
+        lines = [[word, found[at].encode(), subjects[at].strip()] for at, word in wanted]
+        cases.add("autosquash", [len(subjects), *rows, *found], answer(lines))
     cases.group("A todo and commands: the same with `--exec`, with `--autosquash` and without.")
     for at, (history, upstream, branch) in enumerate(made):
         words = ["--autosquash"] if at % 2 else ["--no-autosquash"]
@@ -103,6 +131,31 @@ def add_linear(cases):
         without = history.todo(upstream, branch, *words)
         lines = history.todo(upstream, branch, *words, *(word for command in commands for word in ("--exec", command)))
         cases.add("add-exec", [text(without), *commands], answer(lines))
+    cases.group("A todo and branches: the same with `--update-refs`, with `--autosquash` and without.")
+    for at, (history, upstream, branch) in enumerate(made):
+        words = ["--autosquash"] if at % 2 else ["--no-autosquash"]
+        commits = history.range(upstream, branch)
+        names = [f"refs/heads/b{number}" for number in range(min(len(commits), 4))]
+        refs = dict(zip(pick.sample(names, len(names)), pick.sample(commits, len(names))))
+        refs["refs/heads/up"] = upstream
+        without = history.todo(upstream, branch, *words)
+        for name, found in refs.items():
+            history.repository.git("update-ref", name, found)
+        lines = history.todo(upstream, branch, *words, "--update-refs")
+        for name in refs:
+            history.repository.git("update-ref", "-d", name)
+        cases.add("add-update-refs", [text(without), *(field for name, found in refs.items() for field in (name.encode(), found))], answer(lines))
+    cases.group("Update-ref lines stand behind the squash lines of a group, in byte order, and a branch at a merge behind its line. By that rule.")
+    a, b = "a" * 40, "b" * 40
+    for before, refs, after in [
+        ("noop\n", [("refs/heads/x", a)], "noop\n"),
+        (f"pick {a}\nfixup {b}\npick {'c' * 40}\n", [("refs/heads/y", b), ("refs/heads/x", a), ("refs/heads/X", a)],
+         f"pick {a}\nfixup {b}\nupdate-ref refs/heads/X\nupdate-ref refs/heads/x\nupdate-ref refs/heads/y\npick {'c' * 40}\n"),
+        (f"label onto\npick {a}\nlabel l\nmerge -C {b} l\nlabel m\n", [("refs/heads/y", b), ("refs/heads/x", a), ("refs/heads/z", "d" * 40)],
+         f"label onto\npick {a}\nupdate-ref refs/heads/x\nlabel l\nmerge -C {b} l\nupdate-ref refs/heads/y\nlabel m\n"),
+    ]:
+        fields = [field for name, found in refs for field in (name.encode(), found)]
+        cases.add("add-update-refs", [before.encode(), *fields], answer([parsed(line) for line in after.encode().splitlines()]))
     cases.group("Exec lines stand behind the update-ref lines of a group, and none behind other lines. By that rule.")
     for before, after in [
         (b"noop\n", b"noop\n"),
@@ -113,21 +166,6 @@ def add_linear(cases):
         (b"pick a\nexec x\nfixup b\n", b"pick a\nexec t\nexec x\nfixup b\n"),
     ]:
         cases.add("add-exec", [before, b"t"], answer([parsed(line) for line in after.splitlines()]))
-
-
-def postorder(parents, excluded, tip):
-    """The commits that the tip reaches and that are not excluded, each behind its parents."""
-    met = []
-
-    def visit(found):
-        if found in excluded or found in met:
-            return
-        for parent in parents[found]:
-            visit(parent)
-        met.append(found)
-
-    visit(tip)
-    return met
 
 
 def merges_todo(parents, subjects, base, commits):
@@ -180,7 +218,7 @@ def add_merges(cases):
                 chosen += [pick.choice(others)] if others else []
             parents[found] = chosen
         subjects = {found: b"s%d" % at for at, found in enumerate(ids)}
-        commits = postorder(parents, {root, base, outside}, ids[-1]) if count else []
+        commits = postorder(parents, {root, base, outside}, ids[-1:]) if count else []
         cases.add("plan-merges", [*graph_fields(parents, subjects), base, *commits], answer(merges_todo(parents, subjects, base, commits)))
     a, b, c, d, e = (str(number) * 40 for number in range(1, 6))
     cases.group("A second parent before the base and outside of the range is named by its hex digits; the first commit with no parent or with three is blamed.")

@@ -1,6 +1,7 @@
-//! Cases of `merge_base`.
+//! Cases of `merge_base`, and of `history` where it reads no store.
 
 use cases::{Answer, Case, CaseFault};
+use history::range;
 use merge_base::{Graph, GraphFault, Ids, Node, ancestors, bases, is_ancestor};
 use seq_base::{Bytes, Id};
 use std::alloc::{AllocError, Global};
@@ -93,6 +94,32 @@ pub fn merge_bases(case: &mut Case<'_>) -> Result<(), CaseFault> {
     let first = case.fields.id()?;
     let second = case.fields.id()?;
     put_bases(case, &graph, first, second)
+}
+
+fn ids(case: &mut Case<'_>, count: usize) -> Result<Vec<Id>, CaseFault> {
+    let mut ids = Vec::new(case.alloc);
+    for _ in 0..count {
+        ids.push(case.fields.id()?)?;
+    }
+    Ok(ids)
+}
+
+/// A graph, the number of excluded commits, these, and the tips: the commits that the tips reach and the excluded ones do not, in order.
+pub fn range_of(case: &mut Case<'_>) -> Result<(), CaseFault> {
+    let graph = graph_of(case)?;
+    let Ok(count) = usize::try_from(case.fields.number()?) else {
+        return Err(CaseFault::Value)
+    };
+    let excluded = ids(case, count)?;
+    let tips = ids(case, case.fields.len())?;
+    if graph.missing(&excluded).is_some() || graph.missing(&tips).is_some() {
+        return Err(CaseFault::Value);
+    }
+    case.out.word(b"range")?;
+    for id in range(case.alloc, &graph, &excluded, &tips)?.iter() {
+        case.out.id(*id)?;
+    }
+    Ok(())
 }
 
 /// A graph, the number of tips, the tips, and ids: whether each of these is a tip or an ancestor of one.

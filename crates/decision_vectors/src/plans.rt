@@ -4,7 +4,7 @@ use crate::graphs::graph_with_subjects;
 use cases::{Answer, Case, CaseFault, put_line};
 use seq_base::{Bytes, Id};
 use std::alloc::AllocError;
-use todo_plan::{PlanFault, add_exec, plan_linear, plan_merges};
+use todo_plan::{PlanFault, add_exec, add_update_refs, autosquash, plan_linear, plan_merges};
 use todo_text::{Line, parse_todo};
 
 fn put_lines(case: &mut Case<'_>, lines: &[Line]) -> Result<(), CaseFault> {
@@ -31,6 +31,18 @@ pub fn linear(case: &mut Case<'_>) -> Result<(), CaseFault> {
         return Err(CaseFault::Value);
     }
     let lines = plan_linear(case.alloc, &graph, &range)?;
+    put_lines(case, &lines)
+}
+
+/// A graph with subjects and a range: the lines of its todo, with each commit that asks for it behind its target.
+pub fn squashes(case: &mut Case<'_>) -> Result<(), CaseFault> {
+    let graph = graph_with_subjects(case)?;
+    let range = ids(case)?;
+    if graph.missing(&range).is_some() {
+        return Err(CaseFault::Value);
+    }
+    let lines = plan_linear(case.alloc, &graph, &range)?;
+    let lines = autosquash(case.alloc, lines, &graph)?;
     put_lines(case, &lines)
 }
 
@@ -75,5 +87,19 @@ pub fn execs(case: &mut Case<'_>) -> Result<(), CaseFault> {
         commands.push(case.fields.owned()?)?;
     }
     let all = add_exec(case.alloc, lines, &commands)?;
+    put_lines(case, &all)
+}
+
+/// A todo and branches, each a name and a commit: the lines with their update-ref lines.
+pub fn update_refs(case: &mut Case<'_>) -> Result<(), CaseFault> {
+    let Ok(lines) = parse_todo(case.alloc, case.fields.bytes()?, false) else {
+        return Err(CaseFault::Value)
+    };
+    let mut refs: Vec<(Bytes, Id)> = Vec::new(case.alloc);
+    for _ in 0..case.fields.len() / 2 {
+        let name = case.fields.owned()?;
+        refs.push((name, case.fields.id()?))?;
+    }
+    let all = add_update_refs(case.alloc, lines, &refs)?;
     put_lines(case, &all)
 }

@@ -31,7 +31,7 @@ fn of_stages(verb: &str, case: &mut Case<'_>) -> Result<bool, CaseFault> {
     Ok(true)
 }
 
-/// The crates tree_merge and merge_base.
+/// The crates tree_merge, merge_base and history.
 fn of_merges(verb: &str, case: &mut Case<'_>) -> Result<bool, CaseFault> {
     match verb {
         "merge-path" => merges::one_path(case)?,
@@ -40,6 +40,7 @@ fn of_merges(verb: &str, case: &mut Case<'_>) -> Result<bool, CaseFault> {
         "merge-bases" => graphs::merge_bases(case)?,
         "reached" => graphs::reached(case)?,
         "merge-bases-of-chain" => graphs::chain(case)?,
+        "range" => graphs::range_of(case)?,
         _ => return Ok(false),
     }
     Ok(true)
@@ -49,8 +50,10 @@ fn of_merges(verb: &str, case: &mut Case<'_>) -> Result<bool, CaseFault> {
 fn of_plans(verb: &str, case: &mut Case<'_>) -> Result<bool, CaseFault> {
     match verb {
         "plan-linear" => plans::linear(case)?,
+        "autosquash" => plans::squashes(case)?,
         "plan-merges" => plans::merges(case)?,
         "add-exec" => plans::execs(case)?,
+        "add-update-refs" => plans::update_refs(case)?,
         _ => return Ok(false),
     }
     Ok(true)

@@ -43,13 +43,15 @@ are_both_marked ones others place = is_marked ones place && is_marked others pla
 abbrev pub parents_of_both : List Node → List Bool → List Bool → ℕ → List Bool
 parents_of_both graph ones others zero = replicate (length graph) false
 parents_of_both graph ones others (suc place) =
-    if are_both_marked ones others place then mark_each graph (parents_at graph place) (parents_of_both graph ones others place) else parents_of_both graph ones others place
+    if are_both_marked ones others place then mark_each graph (parents_at graph place) (parents_of_both graph ones others place)
+    else parents_of_both graph ones others place
 
 -- the ids of the commits before a place that both mark, without those in a third
 abbrev pub left_of_both : List Node → List Bool → List Bool → List Bool → ℕ → List (List ℕ)
 left_of_both graph ones others without zero = []
 left_of_both graph ones others without (suc place) =
-    if are_both_marked ones others place && not (is_marked without place) then left_of_both graph ones others without place ++ id_at graph place ∷ [] else left_of_both graph ones others without place
+    if are_both_marked ones others place && not (is_marked without place) then left_of_both graph ones others without place ++ id_at graph place ∷ []
+    else left_of_both graph ones others without place
 
 -- exactly the ancestors of a commit are marked
 pub record MarkAncestors (graph : List Node) (commit : List ℕ) (marks : List Bool) : Type 0 where

@@ -109,6 +109,14 @@ impl Graph {
         }
     }
 
+    /// How many commits it has.
+    pub fn len(&self) -> usize
+        ensures count { result ≡ length self.now }
+        ensures graph { ParentsFirst self.now }
+    {
+        self.nodes.len()
+    }
+
     pub(crate) fn nodes(&self) -> &[Node]
         ensures same { result.now ≡ self.now }
         ensures graph { ParentsFirst self.now }

@@ -5,6 +5,7 @@
 
 mod faults;
 mod held_objects;
+mod histories;
 mod paths;
 mod refs;
 mod revs;

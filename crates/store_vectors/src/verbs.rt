@@ -1,6 +1,6 @@
 //! The verbs.
 
-use crate::{held_objects, paths, refs, revs, trees};
+use crate::{held_objects, histories, paths, refs, revs, trees};
 use cases::{Case, CaseFault, Verbs, files_of, put_changes};
 use seq_memory::QuietStore;
 
@@ -38,7 +38,7 @@ fn over_store(verb: &str, case: &mut Case<'_>, store: &mut QuietStore) -> Result
     )
 }
 
-/// The crate objects.
+/// The crates objects and history.
 fn of_objects(verb: &str, case: &mut Case<'_>, store: &mut QuietStore) -> Result<bool, CaseFault> {
     match verb {
         "get" => held_objects::got(case, store)?,
@@ -47,6 +47,7 @@ fn of_objects(verb: &str, case: &mut Case<'_>, store: &mut QuietStore) -> Result
         "put" => held_objects::new_object(case, store)?,
         "write-object" => held_objects::written(case, store)?,
         "with-prefix" => held_objects::ids(case, store)?,
+        "load" => histories::loaded(case, store)?,
         _ => return Ok(false),
     }
     Ok(true)

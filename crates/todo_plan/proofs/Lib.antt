@@ -2,7 +2,11 @@ pub mod Edges
 pub mod Spelled
 pub mod LinearLaws
 pub mod ExecLaws
+pub mod UpdateLaws
 pub mod Results
 pub mod MergeLaws
 pub mod MergeCommits
 pub mod PlaceLaws
+pub mod LabelLaws
+pub mod RowLaws
+pub mod SquashLaws

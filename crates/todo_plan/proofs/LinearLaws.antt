@@ -6,10 +6,10 @@ use Rattle.std.proofs.lemmas.Slice.Eq.{bytes_eq-Decides}
 use Rattle.std.proofs.lemmas.List.Elements.{All-head, All-tail}
 use Rattle.hex.specs.Hex.{encode_lower}
 use Rattle.merge_base.specs.declared.graph.Node.{Node}
-use Rattle.merge_base.specs.Graphs.{node_at}
+use Rattle.merge_base.specs.Graphs.{HasPlainSubjects, node_at}
 use Rattle.todo_text.specs.Spells.{HasNoFeed}
 use Rattle.todo_plan.specs.Linear.{is_no_merge, is_some_no_merge, linear_revs, pick_unless_merge, picks}
-use Rattle.todo_plan.specs.Told.{HasPlainSubjects, revs_of}
+use Rattle.todo_plan.specs.Told.{revs_of}
 
 pub found_id : (graph : List Node) (id : List ℕ) (node : Node) → node_at graph id ≡ Some node → node.id ≡ id
 found_id [] id node e = cc

@@ -4,13 +4,13 @@ use Rattle.std.specs.Prelude.{◌||◌, ◌==◌, nat_lt}
 use Rattle.std.specs.Str.{bytes_eq}
 use Rattle.hex.specs.Hex.{encode_lower}
 use Rattle.merge_base.specs.declared.graph.Node.{Node}
-use Rattle.merge_base.specs.Graphs.{first_missing, has, node_at}
+use Rattle.merge_base.specs.Graphs.{first_missing, has, is_among, node_at}
 use Rattle.todo_text.specs.declared.line.Line.{Line}
 use Rattle.todo_text.specs.declared.line.Line.TheVariants.{Reset}
 use Rattle.todo_plan.specs.declared.fault.PlanFault.{PlanFault}
 use Rattle.todo_plan.specs.declared.fault.PlanFault.TheVariants.{Octopus, NewRoot}
 use Rattle.todo_plan.specs.Commits.{pick_of}
-use Rattle.todo_plan.specs.Merges.{Numbers, commit_lines, counted, first_fault, is_among, is_apart, label_lines, lines_on, merge_of, merges_todo, name_of, named, numbered, or_fault, parents_fault, range_lines, reset_lines}
+use Rattle.todo_plan.specs.Merges.{Numbers, commit_lines, counted, first_fault, is_apart, label_lines, lines_on, merge_of, merges_todo, name_of, named, numbered, or_fault, parents_fault, range_lines, reset_lines}
 use Rattle.todo_plan.specs.Told.{revs_of, rev_of}
 use Rattle.todo_plan.proofs.LinearLaws.{found_id}
 

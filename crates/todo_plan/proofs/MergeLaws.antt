@@ -7,11 +7,11 @@ use Rattle.std.specs.Ordering.{nat_cmp}
 use Rattle.std.specs.Str.{bytes_eq}
 use Rattle.std.proofs.lemmas.Map.Text.{is_eq-slice_cmp}
 use Rattle.merge_base.specs.declared.graph.Node.{Node}
-use Rattle.merge_base.specs.Graphs.{node_at}
+use Rattle.merge_base.specs.Graphs.{is_among, node_at}
 use Rattle.todo_text.specs.declared.line.Line.{Line}
 use Rattle.todo_plan.specs.declared.fault.PlanFault.{PlanFault}
 use Rattle.todo_plan.specs.declared.fault.PlanFault.TheVariants.{Octopus, NewRoot, Memory}
-use Rattle.todo_plan.specs.Merges.{Numbers, PlanFails, commit_lines, counted, first_fault, is_among, label_lines, numbered, or_fault, parents_fault, range_lines}
+use Rattle.todo_plan.specs.Merges.{Numbers, PlanFails, commit_lines, counted, first_fault, label_lines, numbered, or_fault, parents_fault, range_lines}
 
 -- ---- faults
 

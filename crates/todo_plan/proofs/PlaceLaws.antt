@@ -8,13 +8,13 @@ use Rattle.std.proofs.lemmas.Slice.Eq.{bytes_eq-Decides}
 use Rattle.std.proofs.lemmas.Fmt.{decimal_injective}
 use Rattle.hex.specs.Hex.{encode_lower, encode_with, lower_digits}
 use Rattle.merge_base.specs.declared.graph.Node.{Node}
-use Rattle.merge_base.specs.Graphs.{first_missing, node_at}
+use Rattle.merge_base.specs.Graphs.{first_missing, is_among, node_at, parents_in, parents_of}
 use Rattle.todo_text.specs.declared.line.Line.{Line}
 use Rattle.todo_text.specs.declared.line.Line.TheVariants.{Reset}
 use Rattle.todo_plan.specs.declared.fault.PlanFault.TheVariants.{Octopus, NewRoot}
 use Rattle.todo_plan.specs.Commits.{pick_of}
-use Rattle.todo_plan.specs.Merges.{Numbers, commit_lines, counted, first_fault, is_among, label_lines, label_name, lines_on, merge_of, merges_todo, name_by, name_of, named, numbered, parents_fault, range_lines, reset_lines}
-use Rattle.todo_plan.specs.Places.{Names, ReadsHex, StandsOn, parents_in, parents_of, with_name}
+use Rattle.todo_plan.specs.Merges.{Numbers, commit_lines, counted, first_fault, label_lines, label_name, lines_on, merge_of, merges_todo, name_by, name_of, named, numbered, parents_fault, range_lines, reset_lines}
+use Rattle.todo_plan.specs.Places.{Names, ReadsHex, StandsOn, with_name}
 use Rattle.todo_plan.proofs.LinearLaws.{found_id}
 use Rattle.todo_plan.proofs.MergeCommits.{fits, goes, has_node}
 use Rattle.todo_plan.proofs.Spelled.{digit}
@@ -43,11 +43,11 @@ no_label : (n : ℕ) (id : List ℕ) → bytes_eq (label_name n) (encode_lower i
 no_label n id =
     differ (label_name n) (encode_lower id) (λ e. let h = hex_head 114 refl refl id in let same : not (get_or (encode_lower id) 0 0 == 114) ≡ false = ap (λ (w : List ℕ). not (get_or w 0 0 == 114)) (sym e) in cc)
 
-label_no_onto : (n : ℕ) → bytes_eq (label_name n) (codes "onto") ≡ false
+pub label_no_onto : (n : ℕ) → bytes_eq (label_name n) (codes "onto") ≡ false
 label_no_onto n =
     differ (label_name n) (codes "onto") (λ e. let same : (get_or (label_name n) 0 0 == 114) ≡ (get_or (codes "onto") 0 0 == 114) = ap (λ (w : List ℕ). get_or w 0 0 == 114) e in let no : true ≡ false = same in cc)
 
-labels_differ : (m n : ℕ) → n < m → m < 2 ^ 64 → bytes_eq (label_name m) (label_name n) ≡ false
+pub labels_differ : (m n : ℕ) → n < m → m < 2 ^ 64 → bytes_eq (label_name m) (label_name n) ≡ false
 labels_differ m n l b =
     differ (label_name m) (label_name n) (λ e. let same = decimal_injective m n b (omega arith) (ap (λ (w : List ℕ). drop 3 w) e) in omega (arith, same))
 

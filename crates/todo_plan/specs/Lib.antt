@@ -2,5 +2,9 @@ pub mod Commits
 pub mod Told
 pub mod Linear
 pub mod Groups
+pub mod UpdateRefs
 pub mod Merges
 pub mod Places
+pub mod Labels
+pub mod Autosquash
+pub mod Shape

@@ -1,11 +1,10 @@
 -- The todo that makes merges again (git-rebase(1), "REBASING MERGES"): a commit is picked, or merged again, onto the place of its first
 -- parent, which is reset to where it is not the place of the line before, and a place that is named later gets a label.
 use Rattle.std.specs.Prelude.{◌≡◌, ℕ, ◌+◌, Bool, not, ◌&&◌, nat_lt, ◌==◌, if◌then◌else◌, List, [], ◌∷◌, ◌++◌, length, codes, decimal, Option, Some, None}
-use Rattle.std.specs.List.{list_any}
 use Rattle.std.specs.Str.{bytes_eq}
 use Rattle.hex.specs.Hex.{encode_lower}
 use Rattle.merge_base.specs.declared.graph.Node.{Node}
-use Rattle.merge_base.specs.Graphs.{node_at}
+use Rattle.merge_base.specs.Graphs.{is_among, node_at}
 use Rattle.todo_text.specs.declared.line.Line.{Line}
 use Rattle.todo_text.specs.declared.line.Line.TheVariants.{Label, Merge, Noop, Reset}
 use Rattle.todo_text.specs.declared.line.MergeHow.TheVariants.{Keep}
@@ -61,9 +60,6 @@ named_by place (Some node) = parents_named place node.parents
 abbrev pub named : List Node → List ℕ → List (List ℕ) → List (List ℕ)
 named graph place [] = []
 named graph place (id ∷ ids) = named_by place (node_at graph id) ++ named graph id ids
-
-abbrev pub is_among : List (List ℕ) → List ℕ → Bool
-is_among ids id = list_any (λ other. bytes_eq other id) ids
 
 -- ---- lines
 

@@ -1,10 +1,10 @@
 -- Where a todo stands as it is read line by line (git-rebase(1), "REBASING MERGES").
-use Rattle.std.specs.Prelude.{◌≡◌, ℕ, if◌then◌else◌, List, [], ◌∷◌, Option, Some, None}
+use Rattle.std.specs.Prelude.{◌≡◌, ℕ, if◌then◌else◌, List, [], ◌∷◌}
 use Rattle.std.specs.List.{Contains}
 use Rattle.std.specs.Str.{bytes_eq}
 use Rattle.hex.specs.Hex.{encode_lower}
 use Rattle.merge_base.specs.declared.graph.Node.{Node}
-use Rattle.merge_base.specs.Graphs.{node_at}
+use Rattle.merge_base.specs.Graphs.{parents_of}
 use Rattle.todo_text.specs.declared.line.Line.{Line}
 use Rattle.todo_text.specs.declared.line.Line.TheVariants.{Pick, Exec, Break, Noop, Label, Reset, Merge, UpdateRef}
 use Rattle.todo_text.specs.declared.line.MergeHow.{MergeHow}
@@ -21,13 +21,6 @@ with_name name id names = λ other. if bytes_eq name other then id else names ot
 pub record ReadsHex (graph : List Node) (names : Names) : Type 0 where
   pub commits : (node : Node) → Contains graph node → names (encode_lower node.id) ≡ node.id
   pub parents : (node : Node) (id : List ℕ) → Contains graph node → Contains node.parents id → names (encode_lower id) ≡ id
-
-abbrev pub parents_in : Option Node → List (List ℕ)
-parents_in None = []
-parents_in (Some node) = node.parents
-
-abbrev pub parents_of : List Node → List ℕ → List (List ℕ)
-parents_of graph id = parents_in (node_at graph id)
 
 -- the commit whose message a merge takes
 abbrev pub kept : MergeHow → List ℕ

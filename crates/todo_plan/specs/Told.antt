@@ -1,11 +1,10 @@
 -- What a todo tells of the commits that it is about.
 use Rattle.std.specs.Prelude.{ℕ, List, [], ◌∷◌, ◌++◌, All}
-use Rattle.merge_base.specs.declared.graph.Node.{Node}
 use Rattle.todo_text.specs.declared.line.Line.{Line}
 use Rattle.todo_text.specs.declared.line.Line.TheVariants.{Pick, Exec, Break, Noop, Label, Reset, Merge, UpdateRef}
 use Rattle.todo_text.specs.declared.line.MergeHow.{MergeHow}
 use Rattle.todo_text.specs.declared.line.MergeHow.TheVariants as how
-use Rattle.todo_text.specs.Spells.{HasNoFeed, IsSpelled}
+use Rattle.todo_text.specs.Spells.{IsSpelled}
 
 -- the commit whose message a merge takes
 abbrev pub rev_of_merge : MergeHow → List (List ℕ)
@@ -28,10 +27,6 @@ rev_of (UpdateRef name) = []
 abbrev pub revs_of : List Line → List (List ℕ)
 revs_of [] = []
 revs_of (line ∷ lines) = rev_of line ++ revs_of lines
-
--- no subject has a line feed
-pub record HasPlainSubjects (graph : List Node) : Type 0 where
-  pub each : All (λ node. HasNoFeed node.subject) graph
 
 -- each line is spelled by some text
 pub record AreSpelled (lines : List Line) : Type 0 where

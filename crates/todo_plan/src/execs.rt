@@ -2,47 +2,12 @@
 
 ghost use Rattle.std.specs.Prelude.{◌≡◌, ◌++◌, IfOk, OnOk, map};
 ghost use Rattle.todo_text.specs.declared.line.Line.TheVariants.{Exec};
-ghost use Rattle.todo_plan.specs.Groups.{begins, goes_on, if_any, is_pick, is_squash, with_execs, without_execs};
+ghost use Rattle.todo_plan.specs.Groups.{if_any, with_execs, without_execs};
 
+use crate::groups::{begins, goes_on};
 use seq_base::Bytes;
 use std::alloc::{AllocError, Global};
-use todo_text::{Line, PickKind};
-
-fn is_pick(kind: PickKind) -> bool
-    ensures { result ≡ is_pick kind }
-{
-    matches!(kind, PickKind::Pick)
-}
-
-fn is_squash(kind: PickKind) -> bool
-    ensures { result ≡ is_squash kind }
-{
-    match kind {
-        PickKind::Squash | PickKind::Fixup | PickKind::FixupKeep | PickKind::FixupEdit => true,
-        PickKind::Pick | PickKind::Reword | PickKind::Edit | PickKind::Drop | PickKind::Revert =>
-            false,
-    }
-}
-
-fn begins(line: &Line) -> bool
-    ensures { result ≡ begins line.now }
-{
-    match line {
-        Line::Pick { kind, .. } => is_pick(*kind),
-        Line::Merge { .. } => true,
-        _ => false,
-    }
-}
-
-fn goes_on(line: &Line) -> bool
-    ensures { result ≡ goes_on line.now }
-{
-    match line {
-        Line::Pick { kind, .. } => is_squash(*kind),
-        Line::UpdateRef { .. } => true,
-        _ => false,
-    }
-}
+use todo_text::Line;
 
 fn push_execs(alloc: Global, commands: &[Bytes], lines: &mut Vec<Line>) -> Result<(), AllocError>
     ensures { OnOk result (lines.new.items ≡ lines.old.items ++ map Exec commands.now) }

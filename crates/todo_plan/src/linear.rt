@@ -1,9 +1,9 @@
 //! The todo of a rebase that makes history linear.
 
 ghost use Rattle.std.specs.Prelude.{◌≡◌, ◌++◌, IfOk, OnOk, None};
-ghost use Rattle.merge_base.specs.Graphs.{first_missing, node_at};
+ghost use Rattle.merge_base.specs.Graphs.{HasPlainSubjects, first_missing, node_at};
 ghost use Rattle.todo_plan.specs.Linear.{linear_revs, linear_todo, pick_unless_merge, picks};
-ghost use Rattle.todo_plan.specs.Told.{AreSpelled, HasPlainSubjects, revs_of};
+ghost use Rattle.todo_plan.specs.Told.{AreSpelled, revs_of};
 
 use crate::lines::pick_of;
 use merge_base::Graph;

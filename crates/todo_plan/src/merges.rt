@@ -1,15 +1,16 @@
 //! The todo of a rebase that makes merges again.
 
-ghost use Rattle.std.specs.Prelude.{◌≡◌, ◌++◌, ◌<◌, ◌^◌, ℕ, List, ◌∷◌, IfOk, IfErr, OnOk, None, map};
+ghost use Rattle.std.specs.Prelude.{◌≡◌, ◌++◌, ◌<◌, ◌^◌, ℕ, List, [], ◌∷◌, IfOk, IfErr, OnOk, None, map};
 ghost use Rattle.std.specs.BTreeMap.{get};
 ghost use Rattle.std.specs.BTreeSet.{contains};
 ghost use Rattle.std.specs.Cmp.Lexicographic.{slice_cmp};
 ghost use Rattle.std.specs.Ordering.{nat_cmp};
-ghost use Rattle.merge_base.specs.Graphs.{first_missing, node_at};
+ghost use Rattle.merge_base.specs.Graphs.{first_missing, is_among, node_at};
 ghost use Rattle.hex.specs.Hex.{encode_lower};
+ghost use Rattle.todo_plan.specs.Labels.{AreLabelsSet};
 ghost use Rattle.todo_plan.specs.Places.{Names, ReadsHex, StandsOn};
 ghost use Rattle.todo_plan.specs.Told.{revs_of};
-ghost use Rattle.todo_plan.specs.Merges.{PlanFails, commit_lines, counted, first_fault, if_apart, is_among, is_apart, label_lines, label_name, lines_on, merge_of, merges_todo, name_of, named, named_by, numbered, parents_fault, parents_named, range_lines, reset_lines};
+ghost use Rattle.todo_plan.specs.Merges.{PlanFails, commit_lines, counted, first_fault, if_apart, is_apart, label_lines, label_name, lines_on, merge_of, merges_todo, name_of, named, named_by, numbered, parents_fault, parents_named, range_lines, reset_lines};
 
 use crate::fault::PlanFault;
 use crate::lines::{note_of, pick_of};
@@ -36,6 +37,8 @@ pub fn plan_merges(
     ensures commits { IfOk result (λ lines. revs_of lines.items ≡ map encode_lower range.now) }
     // Each of these lines stands on its commit's own parents, however else names are read: so each commit can be taken as it is.
     ensures stands { (names : Names) → ReadsHex graph.now names → IfOk result (λ lines. StandsOn graph.now names base lines.items) }
+    // Each label is set once, and before it is used.
+    ensures labels { IfOk result (λ lines. AreLabelsSet [] lines.items) }
     ensures err { IfErr result (λ fault. PlanFails (first_fault graph.now range.now) fault) }
 {
     if let Some(fault) = first_fault(graph, range) {
@@ -184,7 +187,8 @@ fn push_reset(
     first: &Id,
     lines: &mut Vec<Line>,
 ) -> Result<(), AllocError>
-    ensures { OnOk result (lines.new.items ≡ lines.old.items ++ reset_lines base.now (λ other. get (slice_cmp nat_cmp) numbers.now other) place.now first.now) }
+    ensures { OnOk result (lines.new.items ≡ lines.old.items
+        ++ reset_lines base.now (λ other. get (slice_cmp nat_cmp) numbers.now other) place.now first.now) }
 {
     if !is_apart(place, first) {
         return Ok(());
@@ -224,7 +228,8 @@ fn push_on(
     node: &Node,
     lines: &mut Vec<Line>,
 ) -> Result<(), AllocError>
-    ensures { OnOk result (lines.new.items ≡ lines.old.items ++ lines_on base.now (λ other. get (slice_cmp nat_cmp) numbers.now other) place.now node.now node.now.parents) }
+    ensures { OnOk result (lines.new.items ≡ lines.old.items
+        ++ lines_on base.now (λ other. get (slice_cmp nat_cmp) numbers.now other) place.now node.now node.now.parents) }
 {
     match node.parents.as_slice() {
         [] => Ok(()),
@@ -250,7 +255,8 @@ fn push_commit(
     id: Id,
     lines: &mut Vec<Line>,
 ) -> Result<(), AllocError>
-    ensures { OnOk result (lines.new.items ≡ lines.old.items ++ commit_lines base.now (λ other. get (slice_cmp nat_cmp) numbers.now other) place.now (node_at graph.now id)) }
+    ensures { OnOk result (lines.new.items ≡ lines.old.items
+        ++ commit_lines base.now (λ other. get (slice_cmp nat_cmp) numbers.now other) place.now (node_at graph.now id)) }
 {
     let Some(node) = graph.node(id) else {
         return Ok(())
@@ -282,7 +288,8 @@ fn note_number(
     id: Id,
     numbers: &mut BTreeMap<Id, u64>,
 ) -> Result<(), AllocError>
-    ensures { OnOk result ((other : List ℕ) → get (slice_cmp nat_cmp) numbers.new other ≡ numbered wanted number id (λ other. get (slice_cmp nat_cmp) numbers.old other) other) }
+    ensures { OnOk result ((other : List ℕ) → get (slice_cmp nat_cmp) numbers.new other
+        ≡ numbered wanted number id (λ other. get (slice_cmp nat_cmp) numbers.old other) other) }
 {
     if !wanted {
         return Ok(());

@@ -1,6 +1,7 @@
 use Rattle.std.proofs.Common.{◌≡◌, ◌++◌, drop}
 use Rattle.todo_plan.specs.Linear.{picks}
-use Rattle.todo_plan.specs.Told.{AreSpelled, HasPlainSubjects}
+use Rattle.merge_base.specs.Graphs.{HasPlainSubjects}
+use Rattle.todo_plan.specs.Told.{AreSpelled}
 use Rattle.todo_plan.proofs.linear.picks.Given as goal
 
 abbrev pub invariant-loop-id : goal.invariant-loop-id

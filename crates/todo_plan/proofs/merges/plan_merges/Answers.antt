@@ -1,7 +1,9 @@
-use Rattle.std.proofs.Common.{rules, ◌≡◌, ◌<◌, ◌^◌, None, length, sym, ap, subst, ◌∙◌}
+use Rattle.std.proofs.Common.{rules, ◌≡◌, ◌<◌, ◌^◌, [], None, length, sym, ap, subst, ◌∙◌}
+use Rattle.todo_plan.specs.Labels.{AreLabelsSet}
 use Rattle.todo_plan.specs.Merges.{first_fault}
 use Rattle.todo_plan.specs.Places.{StandsOn}
 use Rattle.todo_plan.specs.Told.{revs_of}
+use Rattle.todo_plan.proofs.LabelLaws.{labels_set}
 use Rattle.todo_plan.proofs.PlaceLaws.{merges_stand}
 use Rattle.todo_plan.proofs.MergeCommits.{merges_about}
 use Rattle.todo_plan.proofs.MergeLaws.{blamed}
@@ -20,3 +22,8 @@ returns-in-Ok-clause-stands c = λ names reads.
     let small : length c.args.range.now < 2 ^ 64 = search rules in
     let fit : first_fault graph c.args.range.now ≡ None = sym c.first_fault.ensures ∙ c.in_default.is in
     subst (StandsOn graph names c.args.base) (sym c.in-Ok.ensures) (merges_stand graph c.args.base c.args.range.now names reads small c.requires fit)
+
+pub returns-in-Ok-clause-labels : goal.returns-in-Ok-clause-labels
+returns-in-Ok-clause-labels c =
+    let small : length c.args.range.now < 2 ^ 64 = search rules in
+    subst (AreLabelsSet []) (sym c.in-Ok.ensures) (labels_set c.args.graph.now c.args.base c.args.range.now small)

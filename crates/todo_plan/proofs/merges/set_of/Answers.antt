@@ -4,7 +4,7 @@ use Rattle.std.specs.BTreeSet.{contains}
 use Rattle.std.specs.Cmp.Lexicographic.{slice_cmp}
 use Rattle.std.specs.Ordering.{nat_cmp}
 use Rattle.std.proofs.lemmas.List.{at_drop_more}
-use Rattle.todo_plan.specs.Merges.{is_among}
+use Rattle.merge_base.specs.Graphs.{is_among}
 use Rattle.todo_plan.proofs.MergeLaws.{put_among}
 use Rattle.todo_plan.proofs.merges.set_of.Goals as goal
 

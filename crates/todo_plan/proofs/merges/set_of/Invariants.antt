@@ -3,7 +3,7 @@ use Rattle.std.specs.Prelude.{◌||◌}
 use Rattle.std.specs.BTreeSet.{contains}
 use Rattle.std.specs.Cmp.Lexicographic.{slice_cmp}
 use Rattle.std.specs.Ordering.{nat_cmp}
-use Rattle.todo_plan.specs.Merges.{is_among}
+use Rattle.merge_base.specs.Graphs.{is_among}
 use Rattle.todo_plan.proofs.merges.set_of.Given as goal
 
 abbrev pub invariant-loop-id : goal.invariant-loop-id

@@ -1,0 +1,4 @@
+pub mod Loads
+pub mod Laws
+pub mod Waiting
+pub mod Walks
