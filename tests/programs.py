@@ -9,6 +9,7 @@ TOP = os.path.dirname(os.path.dirname(os.path.abspath(__file__)))
 RAWGIT = os.path.join(TOP, "tools", "rawgit")
 BUILT = os.path.join(TOP, "crates", "gitseq", "out", "gitseq")
 LIST_REFS = os.path.join(TOP, "crates", "list_refs", "out", "list_refs")
+MAKE_COMMIT = os.path.join(TOP, "crates", "make_commit", "out", "make_commit")
 SECONDS = 120
 
 SETTINGS = b"""\

@@ -107,11 +107,13 @@ fn ids(case: &mut Case<'_>, count: usize) -> Result<Vec<Id>, CaseFault> {
 /// A graph, the number of excluded commits, these, and the tips: the commits that the tips reach and the excluded ones do not, in order.
 pub fn range_of(case: &mut Case<'_>) -> Result<(), CaseFault> {
     let graph = graph_of(case)?;
-    let Ok(count) = usize::try_from(case.fields.number()?) else {
-        return Err(CaseFault::Value)
+    let number = case.fields.number()?;
+    let Ok(count) = usize::try_from(number) else {
+        return Err(CaseFault::Value);
     };
     let excluded = ids(case, count)?;
-    let tips = ids(case, case.fields.len())?;
+    let left = case.fields.len();
+    let tips = ids(case, left)?;
     if graph.missing(&excluded).is_some() || graph.missing(&tips).is_some() {
         return Err(CaseFault::Value);
     }

@@ -3,6 +3,7 @@
 #![tactic(auto)]
 
 mod attributes;
+mod children;
 mod graphs;
 mod merges;
 mod outcomes;

@@ -1,6 +1,6 @@
 //! The verbs.
 
-use crate::{attributes, graphs, merges, outcomes, plans, stages};
+use crate::{attributes, children, graphs, merges, outcomes, plans, stages};
 use cases::{Case, CaseFault, Verbs};
 
 /// The verbs of the crates that decide.
@@ -12,7 +12,8 @@ impl Verbs for DecisionVerbs {
             of_stages(verb, case)?
                 || of_merges(verb, case)?
                 || of_plans(verb, case)?
-                || of_words(verb, case)?,
+                || of_words(verb, case)?
+                || of_children(verb, case)?,
         )
     }
 }
@@ -67,6 +68,19 @@ fn of_words(verb: &str, case: &mut Case<'_>) -> Result<bool, CaseFault> {
         "merge-attribute" => attributes::merge(case)?,
         "report" => outcomes::report_of(case)?,
         "outcome-paths" => outcomes::kept_paths(case)?,
+        _ => return Ok(false),
+    }
+    Ok(true)
+}
+
+/// The crates child_jobs and driver_pool.
+fn of_children(verb: &str, case: &mut Case<'_>) -> Result<bool, CaseFault> {
+    match verb {
+        "exec-job" => children::exec(case)?,
+        "editor-job" => children::edit(case)?,
+        "hook-job" => children::hook(case)?,
+        "editor" => children::editor_set(case)?,
+        "driver-command" => children::driver(case)?,
         _ => return Ok(false),
     }
     Ok(true)

@@ -1,0 +1,4 @@
+use Rattle.commit_maker.proofs.showing.ask_editor.Goals as goal
+
+pub returns-clause-follows : goal.returns-clause-follows
+returns-clause-follows g c = λ told. rw c.in_ok-job.ensures at (c.ask_child.ensures.follows told)

@@ -1,0 +1,4 @@
+pub mod Committers
+pub mod Messages
+pub mod Commits
+pub mod Causes

@@ -1,0 +1,5 @@
+//! Tests of merges over a store and children in memory.
+#![tactic(auto)]
+
+#[cfg(test)]
+mod merge_tests;
