@@ -8,8 +8,10 @@ import sys
 TOP = os.path.dirname(os.path.dirname(os.path.abspath(__file__)))
 RAWGIT = os.path.join(TOP, "tools", "rawgit")
 BUILT = os.path.join(TOP, "crates", "gitseq", "out", "gitseq")
+STATES = os.path.join(TOP, "crates", "state_vectors", "out", "state_vectors")
 LIST_REFS = os.path.join(TOP, "crates", "list_refs", "out", "list_refs")
 MAKE_COMMIT = os.path.join(TOP, "crates", "make_commit", "out", "make_commit")
+PLAN_TODO = os.path.join(TOP, "crates", "plan_todo", "out", "plan_todo")
 SECONDS = 120
 
 SETTINGS = b"""\

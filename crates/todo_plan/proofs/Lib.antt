@@ -10,3 +10,4 @@ pub mod PlaceLaws
 pub mod LabelLaws
 pub mod RowLaws
 pub mod SquashLaws
+pub mod SegmentLaws

@@ -1,5 +1,6 @@
 -- Rows with one more.
-use Rattle.std.proofs.Common.{◌≡◌, ℕ, suc, ◌+◌, Bool, true, false, cond, List, [], ◌∷◌, ◌++◌, length, Option, Some, None, is_some, refl, sym, ap, ◌∙◌, arith}
+use Rattle.std.proofs.Common.{◌≡◌, ℕ, suc, ◌+◌, ◌<◌, Bool, true, false, cond, List, [], ◌∷◌, ◌++◌, length, Option, Some, None, is_some, refl, sym, ap, ◌∙◌, arith}
+use Rattle.std.specs.Prelude.{nat_le, IfSome}
 use Rattle.std.specs.List.{position_from}
 use Rattle.std.specs.Str.{bytes_eq}
 use Rattle.std.specs.BTreeMap.{BTreeMap, get, is_at}
@@ -7,7 +8,7 @@ use Rattle.std.specs.Cmp.Lexicographic.{slice_cmp}
 use Rattle.std.specs.Ordering.{nat_cmp}
 use Rattle.std.proofs.lemmas.Map.Text.{is_eq-slice_cmp}
 use Rattle.std.proofs.lemmas.Slice.Eq.{bytes_eq-Decides}
-use Rattle.todo_plan.specs.Autosquash.{Row, or_else, target, with_digits, with_start, with_subject}
+use Rattle.todo_plan.specs.Autosquash.{Row, begins_with, first_row, or_else, target, with_digits, with_start, with_subject}
 use Rattle.todo_plan.specs.Shape.{AreRows}
 
 or_none : (v : Option ℕ) → or_else v None ≡ v
@@ -79,3 +80,33 @@ by_subject rows text n e = ap (λ (v : Option ℕ). or_else v (or_else (with_dig
 pub by_front : (rows : List Row) (text : List ℕ) → with_subject rows text ≡ None
     → target rows text ≡ or_else (with_digits rows text) (with_start rows text)
 by_front rows text none = ap (λ (v : Option ℕ). or_else v (or_else (with_digits rows text) (with_start rows text))) none
+
+from_within : (p : Row → Bool) (n : ℕ) (rows : List Row) (k : ℕ) → position_from p n rows ≡ Some k → k < n + length rows
+from_within p n [] k e = absurd cc
+from_within p n (x ∷ rows) k e = step (from_within p (n + 1) rows k) (p x) e
+  where
+    step : (position_from p (n + 1) rows ≡ Some k → k < n + 1 + length rows) → (t : Bool) → cond t (Some n) (position_from p (n + 1) rows) ≡ Some k
+        → k < n + suc (length rows)
+    step rest true e = let is : n ≡ k = cc in omega arith
+    step rest false e = let l = rest e in omega (arith, l)
+
+either_within : (a b : Option ℕ) (m k : ℕ) → (a ≡ Some k → k < m) → (b ≡ Some k → k < m) → or_else a b ≡ Some k → k < m
+either_within None b m k f g e = g e
+either_within (Some n) b m k f g e = f e
+
+-- it is one of them
+target_within : (rows : List Row) (text : List ℕ) (k : ℕ) → target rows text ≡ Some k → k < length rows
+target_within rows text k e =
+    either_within (with_subject rows text) (or_else (with_digits rows text) (with_start rows text)) (length rows) k (λ f. found (λ r. bytes_eq r.1 text) f)
+    (λ f. either_within (with_digits rows text) (with_start rows text) (length rows) k (λ g. digits (nat_le 4 (length text)) g) (λ g. found (λ r. begins_with r.1 text) g) f) e
+  where
+    found : (p : Row → Bool) → position_from p 0 rows ≡ Some k → k < length rows
+    found p f = let l = from_within p 0 rows k f in omega (arith, l)
+
+    digits : (t : Bool) → cond t (first_row (λ r. begins_with r.0 text) rows) None ≡ Some k → k < length rows
+    digits true f = found (λ r. begins_with r.0 text) f
+    digits false f = absurd cc
+
+pub found_within : (rows : List Row) (text : List ℕ) (found : Option ℕ) → found ≡ target rows text → IfSome found (λ number. number < length rows)
+found_within rows text None e = tt
+found_within rows text (Some n) e = target_within rows text n (sym e)

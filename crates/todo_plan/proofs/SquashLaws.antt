@@ -16,7 +16,7 @@ use Rattle.todo_text.specs.declared.line.Line.{Line}
 use Rattle.todo_text.specs.declared.line.Line.TheVariants.{Pick, Exec, Break, Noop, Label, Reset, Merge, UpdateRef}
 use Rattle.todo_text.specs.declared.line.PickKind.{PickKind}
 use Rattle.todo_text.specs.declared.line.PickKind.TheVariants as kind
-use Rattle.todo_plan.specs.declared.squashes.Placed.{Placed}
+use Rattle.todo_plan.specs.declared.segments.Placed.{Placed}
 use Rattle.todo_plan.specs.Autosquash.{Row, Squash, as_pick, autosquashed, begins_with, behind_word, belongs, found_by, node_of, picked, placed_at, placed_with, renamed, rows_with, squash_by, squash_into, squash_kind, squash_of, squashed, target, target_text, up_to_last, without_words, word_length}
 
 -- ---- words
@@ -107,7 +107,7 @@ or_false : (t : Bool) → (t || false) ≡ t
 or_false true = refl
 or_false false = refl
 
-none_of : (n : ℕ) (placed : List Placed) → list_any (belongs n) placed ≡ false → up_to_last n placed ≡ 0
+pub none_of : (n : ℕ) (placed : List Placed) → list_any (belongs n) placed ≡ false → up_to_last n placed ≡ 0
 none_of n [] e = refl
 none_of n (p ∷ placed) e = ap (λ (t : Bool). cond t (up_to_last n placed + 1) 0) e
 

@@ -10,7 +10,7 @@ use Rattle.todo_text.specs.declared.line.Line.{Line}
 use Rattle.todo_text.specs.declared.line.Line.TheVariants.{Pick, Exec, Break, Noop, Label, Reset, Merge, UpdateRef}
 use Rattle.todo_text.specs.declared.line.PickKind.{PickKind}
 use Rattle.todo_text.specs.declared.line.PickKind.TheVariants as kind
-use Rattle.todo_plan.specs.declared.squashes.Placed.{Placed}
+use Rattle.todo_plan.specs.declared.segments.Placed.{Placed}
 use Rattle.todo_plan.specs.Groups.{is_pick}
 
 -- ---- what a subject asks for
@@ -123,10 +123,16 @@ abbrev pub up_to_last : ℕ → List Placed → ℕ
 up_to_last n [] = 0
 up_to_last n (p ∷ placed) = if list_any (belongs n) (p ∷ placed) then up_to_last n placed + 1 else 0
 
+-- behind the last of those that belong to a pick
+abbrev pub moved_at : ℕ → List Placed → Line → ℕ → List Placed
+moved_at number placed line target = insert placed (up_to_last target placed) (record { line = line; pick = Some number; target = Some target })
+
 abbrev pub placed_at : ℕ → List Placed → Line → Option Squash → List Placed
 placed_at number placed line None = placed ++ record { line = line; pick = Some number; target = None } ∷ []
-placed_at number placed line (Some s) =
-    insert placed (up_to_last s.1 placed) (record { line = renamed s.0 line; pick = Some number; target = Some s.1 })
+placed_at number placed line (Some s) = moved_at number placed (renamed s.0 line) s.1
+
+abbrev pub with_line : List Placed → Line → List Placed
+with_line placed line = placed ++ record { line = line; pick = None; target = None } ∷ []
 
 -- ---- all lines
 
@@ -154,7 +160,7 @@ rows_with rows None = rows
 rows_with rows (Some node) = rows ++ row_of node ∷ []
 
 abbrev pub placed_with : List Row → List Placed → Line → Option Node → List Placed
-placed_with rows placed line None = placed ++ record { line = line; pick = None; target = None } ∷ []
+placed_with rows placed line None = with_line placed line
 placed_with rows placed line (Some node) = placed_at (length rows) placed line (squash_of rows node.subject)
 
 abbrev pub squashed : List Node → List Row → List Placed → List Line → List Line

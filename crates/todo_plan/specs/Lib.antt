@@ -7,4 +7,5 @@ pub mod Merges
 pub mod Places
 pub mod Labels
 pub mod Autosquash
+pub mod Segments
 pub mod Shape

@@ -8,6 +8,7 @@ mod linear;
 mod lines;
 mod merges;
 mod rows;
+mod segments;
 mod squashes;
 mod update_refs;
 

@@ -1,6 +1,6 @@
 //! The commits that were picked so far.
 
-ghost use Rattle.std.specs.Prelude.{◌≡◌, ◌∷◌, ◌++◌, [], IfOk, OnOk, length, nat_le};
+ghost use Rattle.std.specs.Prelude.{◌≡◌, ◌<◌, ◌∷◌, ◌++◌, [], IfOk, IfSome, OnOk, length, nat_le};
 ghost use Rattle.todo_plan.specs.Autosquash.{begins_with, first_row, or_else, row_of, target, with_digits, with_start, with_subject};
 
 use merge_base::Node;
@@ -138,7 +138,8 @@ impl Rows {
 
     /// The row that a text is meant for.
     pub fn target(&self, alloc: Global, text: &[u8]) -> Result<Option<usize>, AllocError>
-        ensures { IfOk result (λ found. found ≡ target self.now text.now) }
+        ensures found { IfOk result (λ found. found ≡ target self.now text.now) }
+        ensures within { IfOk result (λ found. IfSome found (λ number. number < length self.now)) }
     {
         let key = bytes_of(alloc, text)?;
         match self.first(&key) {

@@ -1,27 +1,19 @@
 //! Commits that are squashed into earlier ones.
 
-ghost use Rattle.std.specs.Prelude.{◌≡◌, ◌<◌, ◌≤◌, ◌∷◌, ◌++◌, [], IfOk, IfSome, OnOk, Some, length, map};
+ghost use Rattle.std.specs.Prelude.{◌≡◌, ◌+◌, ◌<◌, ◌≤◌, ◌∷◌, ◌++◌, [], IfOk, IfSome, OnOk, Some, length, map};
 ghost use Rattle.std.specs.List.Sorted.{IsPermutation};
 ghost use Rattle.std.specs.Option.{option_copied};
-ghost use Rattle.todo_plan.specs.Autosquash.{as_pick, autosquashed, belongs, is_number, node_of, picked, placed_at, placed_with, renamed, rows_with, squash_kind, squash_of, target_text, up_to_last, word_length};
+ghost use Rattle.todo_plan.specs.Autosquash.{as_pick, autosquashed, node_of, picked, placed_at, placed_with, renamed, rows_with, squash_kind, squash_of, target_text, word_length};
+ghost use Rattle.todo_plan.specs.Segments.{InSegments, all_of, joined, picks_of};
 ghost use Rattle.todo_plan.specs.Groups.{is_pick};
 
 use crate::groups::is_pick;
 use crate::rows::Rows;
+use crate::segments::{Places, Segment, move_pick, put_line, put_pick};
 use merge_base::{Graph, Node};
 use seq_base::Id;
 use std::alloc::{AllocError, Global};
 use todo_text::{Line, PickKind};
-
-/// A line in its place. Each pick of the range has a number.
-#[derive(Drop)]
-pub(crate) struct Placed {
-    pub line: Line,
-    /// Which of the picks it is.
-    pub pick: Option<usize>,
-    /// Behind which of the picks it was moved.
-    pub target: Option<usize>,
-}
 
 /// The todo with each commit whose subject begins with `fixup! `, `squash! ` or `amend! ` moved behind the pick that it is meant for, and
 /// behind what was moved there before, as `fixup`, `squash` or `fixup -C` (git-rebase(1), "--autosquash"). It is meant for the first earlier pick
@@ -39,19 +31,31 @@ fn moved(alloc: Global, lines: Vec<Line>, graph: &Graph) -> Result<Vec<Line>, Al
     ensures { IfOk result (λ all. all.items ≡ autosquashed graph.now lines.items) }
 {
     let mut rows = Rows::new(alloc);
-    let mut placed = Vec::new(alloc);
+    let mut places = Places {
+        segments: Vec::new(alloc),
+        homes: Vec::new(alloc),
+    };
     for line in lines {
-        place(alloc, graph, line, &mut rows, &mut placed)?;
+        place(alloc, graph, line, &mut rows, &mut places)?;
     }
-    lines_of(alloc, placed)
+    lines_of(alloc, places.segments)
 }
 
-fn lines_of(alloc: Global, placed: Vec<Placed>) -> Result<Vec<Line>, AllocError>
-    ensures { IfOk result (λ lines. lines.items ≡ map (λ p. p.line) placed.items) }
+fn push_lines(segment: Segment, lines: &mut Vec<Line>) -> Result<(), AllocError>
+    ensures { OnOk result (lines.new.items ≡ lines.old.items ++ map (λ p. p.line) segment) }
+{
+    for one in segment.into_vec() {
+        lines.push(one.line)?;
+    }
+    Ok(())
+}
+
+fn lines_of(alloc: Global, segments: Vec<Segment>) -> Result<Vec<Line>, AllocError>
+    ensures { IfOk result (λ lines. lines.items ≡ map (λ p. p.line) (joined segments.items)) }
 {
     let mut lines = Vec::new(alloc);
-    for one in placed {
-        lines.push(one.line)?;
+    for segment in segments {
+        push_lines(segment, &mut lines)?;
     }
     Ok(lines)
 }
@@ -129,7 +133,8 @@ fn squash_of(
     rows: &Rows,
     subject: &[u8],
 ) -> Result<Option<(PickKind, usize)>, AllocError>
-    ensures { IfOk result (λ squash. squash ≡ squash_of rows.now subject.now) }
+    ensures squash { IfOk result (λ squash. squash ≡ squash_of rows.now subject.now) }
+    ensures within { IfOk result (λ squash. IfSome squash (λ s. s.1 < length rows.now)) }
 {
     let Some(kind) = squash_kind(subject) else {
         return Ok(None)
@@ -140,36 +145,6 @@ fn squash_of(
     }
 }
 
-fn is_number(number: usize, found: Option<usize>) -> bool
-    ensures { result ≡ is_number number found }
-{
-    match found {
-        Some(other) => other == number,
-        None => false,
-    }
-}
-
-fn belongs(number: usize, placed: &Placed) -> bool
-    ensures { result ≡ belongs number placed.now }
-{
-    is_number(number, placed.pick) || is_number(number, placed.target)
-}
-
-/// How many lines stand up to the last one that belongs to a pick.
-fn up_to_last(number: usize, placed: &[Placed]) -> usize
-    ensures count { result ≡ up_to_last number placed.now }
-    ensures within { result ≤ length placed.now }
-{
-    let mut end = placed.len();
-    while end > 0 {
-        if belongs(number, &placed[end - 1]) {
-            return end;
-        }
-        end -= 1;
-    }
-    0
-}
-
 fn rename(kind: PickKind, line: &mut Line)
     ensures { line.new ≡ renamed kind line.old }
 {
@@ -178,35 +153,25 @@ fn rename(kind: PickKind, line: &mut Line)
     }
 }
 
-fn place_at(
-    number: usize,
+/// Places the next pick.
+fn place_pick(
+    alloc: Global,
     line: Line,
     squash: Option<(PickKind, usize)>,
-    placed: &mut Vec<Placed>,
+    places: &mut Places,
 ) -> Result<(), AllocError>
-    ensures { OnOk result (placed.new.items ≡ placed_at number placed.old.items line squash) }
+    requires segments { InSegments places.old }
+    requires target { IfSome squash (λ s. s.1 < picks_of places.old) }
+    ensures lines { OnOk result (all_of places.new ≡ placed_at (picks_of places.old) (all_of places.old) line squash) }
+    ensures homes { OnOk result (picks_of places.new ≡ picks_of places.old + 1) }
+    ensures segments { OnOk result (InSegments places.new) }
 {
-    let pick = Some(number);
     let Some((kind, target)) = squash else {
-        placed.push(Placed {
-            line,
-            pick,
-            target: None,
-        })?;
-        return Ok(());
+        return put_pick(alloc, line, places);
     };
     let mut line = line;
     rename(kind, &mut line);
-    let place = up_to_last(target, placed);
-    placed.insert(
-        place,
-        Placed {
-            line,
-            pick,
-            target: Some(target),
-        },
-    )?;
-    Ok(())
+    move_pick(line, target, places)
 }
 
 /// Places the next line, and notes its commit, if it picks one.
@@ -215,20 +180,19 @@ fn place(
     graph: &Graph,
     line: Line,
     rows: &mut Rows,
-    placed: &mut Vec<Placed>,
+    places: &mut Places,
 ) -> Result<(), AllocError>
+    requires segments { InSegments places.old }
+    requires rows { length rows.old ≡ picks_of places.old }
     ensures rows { OnOk result (rows.new ≡ rows_with rows.old (picked graph.now line)) }
-    ensures placed { OnOk result (placed.new.items ≡ placed_with rows.old placed.old.items line (picked graph.now line)) }
+    ensures lines { OnOk result (all_of places.new ≡ placed_with rows.old (all_of places.old) line (picked graph.now line)) }
+    ensures homes { OnOk result (length rows.new ≡ picks_of places.new) }
+    ensures segments { OnOk result (InSegments places.new) }
 {
     let Some(node) = picked(graph, &line) else {
-        placed.push(Placed {
-            line,
-            pick: None,
-            target: None,
-        })?;
-        return Ok(());
+        return put_line(alloc, line, places);
     };
     let squash = squash_of(alloc, rows, node.subject.as_slice())?;
-    place_at(rows.len(), line, squash, placed)?;
+    place_pick(alloc, line, squash, places)?;
     rows.push(alloc, node)
 }

@@ -1,6 +1,8 @@
 use Rattle.std.proofs.Common.{◌≡◌, ◌++◌, map}
 use Rattle.std.specs.Vec.Iter.{into_iter_items}
+use Rattle.todo_plan.specs.Segments.{joined}
 use Rattle.todo_plan.proofs.squashes.lines_of.Given as goal
 
-abbrev pub invariant-loop-one : goal.invariant-loop-one
-invariant-loop-one l = l.lines.items ++ map (λ p. p.line) (into_iter_items l.one-iterator) ≡ map (λ p. p.line) l.fn.placed.items
+abbrev pub invariant-loop-segment : goal.invariant-loop-segment
+invariant-loop-segment l =
+    l.lines.items ++ map (λ p. p.line) (joined (into_iter_items l.segment-iterator)) ≡ map (λ p. p.line) (joined l.fn.segments.items)

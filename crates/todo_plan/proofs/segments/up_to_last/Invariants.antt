@@ -1,6 +1,6 @@
 use Rattle.std.proofs.Common.{◌≡◌, ◌≤◌, length, take}
 use Rattle.todo_plan.specs.Autosquash.{up_to_last}
-use Rattle.todo_plan.proofs.squashes.up_to_last.Given as goal
+use Rattle.todo_plan.proofs.segments.up_to_last.Given as goal
 
 abbrev pub invariant-loop-end : goal.invariant-loop-end
 invariant-loop-end l = record {

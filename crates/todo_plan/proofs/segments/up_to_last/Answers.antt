@@ -1,7 +1,7 @@
 use Rattle.std.proofs.Common.{◌≡◌, arith, false, sym, true, ◌∙◌}
 use Rattle.todo_plan.specs.Autosquash.{belongs}
 use Rattle.todo_plan.proofs.SquashLaws.{last_before, last_found}
-use Rattle.todo_plan.proofs.squashes.up_to_last.Goals as goal
+use Rattle.todo_plan.proofs.segments.up_to_last.Goals as goal
 
 pub returns-then-belongs-clause-count : goal.returns-then-belongs-clause-count
 returns-then-belongs-clause-count c =
