@@ -31,6 +31,15 @@ class History:
         self.repository.write("a", b"hello\n")
         self.repository.write("c", b"hello\n")
         self.clear_logs()
+        self.has_settings = False
+
+    def set(self, *pairs):
+        """Adds these settings to those of `git init`, which gitseq then sees too. No variable names the committer to git."""
+        for key, value in pairs:
+            self.repository.git("config", "--add", key, value)
+        for name, _ in WHO:
+            del self.repository.env[name]
+        self.has_settings = True
 
     def commit(self, entries, parents, message):
         return self.repository.commit(self.repository.tree(entries), parents, message)
@@ -44,6 +53,8 @@ class History:
         """What gitseq sees of the repository; the index with stat words of 0."""
         found = objects_of(self.repository) | refs_of(self.repository)
         found[b".git/index"] = written(rows_of(self.repository))
+        if self.has_settings:
+            found[b".git/config"] = self.repository.read(".git/config")
         for path, text in self.worktree().items():
             found[path] = text
         return found
@@ -59,9 +70,9 @@ class History:
                     found[os.fsencode(os.path.relpath(path, self.repository.top))] = file.read()
         return found
 
-    def pick(self, word):
-        """Picks by git, as Sam at the moment."""
-        env = dict(WHO) | {"GIT_COMMITTER_DATE": f"@{MOMENT} +0000"}
+    def pick(self, word, who):
+        """Picks by git at the moment."""
+        env = dict(who) | {"GIT_COMMITTER_DATE": f"@{MOMENT} +0000"}
         self.repository.git("cherry-pick", word, env=env)
 
 
@@ -101,14 +112,10 @@ def add_refusals(cases, history, files):
         (b".git/sequencer/todo", b""),
         (b".git/rebase-apply/next", b"1\n"),
         (b".git/CHERRY_PICK_HEAD", history.add_b.encode() + b"\n"),
-        (b".git/config", b"[core]\n"),
         (b".git/hooks/pre-commit", b""),
     ]:
         refused(cases, files | changed_c | {path: text}, ["cherry-pick", history.add_b], "refused not-built\n")
     refused(cases, files | changed_c, ["cherry-pick", history.base], "refused not-built\n")
-    for name, email in (("Sam", ""), ("S<m", "sam@x")):
-        who = [("GIT_COMMITTER_NAME", name), ("GIT_COMMITTER_EMAIL", email)]
-        refused(cases, files | changed_c, ["cherry-pick", history.add_b], "refused not-built\n", 3, who)
     cases.group("Objects that are missing, of another kind, or damaged are named; also a tree with the name .GIT. By the written rule.")
     missing = "1234567890" * 4
     refused(cases, files, ["cherry-pick", missing], f"refused bad-object {missing}\n")
@@ -154,9 +161,71 @@ def add_refusals(cases, history, files):
     refused(cases, files | unborn | packed | index, ["cherry-pick", history.add_b], "refused bad-refs 2\n")
     refused(cases, files | unborn | index | changed_c, ["cherry-pick", history.add_b], "refused bad-index count\n")
     refused(cases, files | unborn | changed_c, ["cherry-pick", history.add_b], "refused unborn-head\n")
+    add_settings(cases, history, files | changed_c, packed, index)
+    add_identities(cases, history, files | changed_c, unborn)
     cases.group("Untracked files that `git cherry-pick` would overwrite: a file, a folder with a file, a file in a folder's place.")
     for path, word, where in ((b"b", history.add_b, "b"), (b"b/c", history.add_b, "b"), (b"d", history.add_d_n, "d/n")):
         refused(cases, files | {path: b"mine\n"}, ["cherry-pick", word], f"refused would-overwrite {where}\n")
+
+
+def add_settings(cases, history, files, packed, index):
+    """`files` has a changed file, `packed` packed refs that are bad, `index` an index that is bad."""
+    cases.group(
+        "A configuration is told behind the packed refs and before the index: a line that is bad, then the first key that asks for what is not",
+        "there, then how many drivers run at once. By the written rule.",
+    )
+    words = ["cherry-pick", history.add_b]
+    bad = {b".git/config": b"[core\n"}
+    refused(cases, files | index | bad | packed, words, "refused bad-refs 2\n")
+    refused(cases, files | index | bad | {b".git/HEAD": b"d121\n"}, words, "refused bad-head\n")
+    extension = b"[extensions]\n\tobjectFormat = sha1\n"
+    version = b"[core]\n\trepositoryformatversion = %d\n"
+    jobs = b"[gitseq]\n\tjobs = %s\n"
+    for text, status, printed in [
+        (b"[core\n", 3, "refused bad-config 1"),
+        (extension + b"[user]\n\tname = \"Sam\n", 3, "refused bad-config 4"),
+        (extension, 3, "refused unsupported extensions.objectformat"),
+        (b'[extensions "A b"]\n\tc\n', 3, "refused unsupported extensions.A b.c"),
+        (version % 2 + extension, 3, "refused unsupported core.repositoryformatversion"),
+        (version % 0 + extension + version % 2, 3, "refused unsupported extensions.objectformat"),
+        (jobs % b"0" + version % 2, 3, "refused unsupported core.repositoryformatversion"),
+        (jobs % b"0", 8, "limit jobs 0"),
+        (jobs % b"1" + jobs % b"17", 8, "limit jobs 17"),
+        (jobs % b"999999999", 8, "limit jobs 999999999"),
+        (jobs % b"0000000001", 3, "refused unsupported gitseq.jobs"),
+        (jobs % b"2x", 3, "refused unsupported gitseq.jobs"),
+        (jobs % b"", 3, "refused unsupported gitseq.jobs"),
+        (jobs % b"x" + jobs % b"16", 3, "refused bad-index count"),
+        (version % 2 + version % 1, 3, "refused bad-index count"),
+        (b'[core "x"]\n\trepositoryformatversion = 2\n[include]\n\tpath = x\n', 3, "refused bad-index count"),
+    ]:
+        refused(cases, files | index | {b".git/config": text}, words, printed + "\n", status)
+
+
+def add_identities(cases, history, files, unborn):
+    """`files` has a changed file, `unborn` a HEAD without a commit."""
+    cases.group(
+        "Who commits is told behind a HEAD without a commit, and before the commit that is picked and a changed file. A variable that is there",
+        "decides, also where it is empty. By the written rule; Git refuses an empty name too.",
+    )
+    words = ["cherry-pick", history.add_b]
+    name, email = WHO
+    settings = {b".git/config": b"[user]\n\tname = Sam\n\temail = sam@x\n"}
+    no_email = {b".git/config": b"[user]\n\tname = Sam\n[user \"x\"]\n\temail = sam@x\n"}
+    refused(cases, files | unborn, words, "refused unborn-head\n", 3, [])
+    refused(cases, files, ["cherry-pick", history.base], "refused no-identity\n", 3, [])
+    for more, who in [
+        ({}, []),
+        ({}, [name]),
+        ({}, [email]),
+        ({}, [name, (email[0], "")]),
+        ({}, [(name[0], "S<m"), email]),
+        (no_email, []),
+        (settings, [(name[0], "")]),
+        (settings | {b".git/config": b"[user]\n\tname = Sam\n\temail = sam@x\n\tname\n\tname =\n"}, []),
+    ]:
+        refused(cases, files | more, words, "refused no-identity\n", 3, who)
+    refused(cases, files | settings, words, "refused dirty c\n", 3, [])
 
 
 def add_names(cases):
@@ -179,17 +248,18 @@ def add_names(cases):
             refused(cases, files, ["cherry-pick", word], f"refused {why} {word}\n")
 
 
-def add_pick(cases, history, word, *clocks):
+def add_pick(cases, history, word, *clocks, who=None):
     """A pick, and the same word once more, whose changes are there then."""
+    who = WHO if who is None else who
     before = history.files()
-    history.pick(word)
+    history.pick(word, who)
     after = history.files()
     after[b".git/COMMIT_EDITMSG"] = history.repository.git("log", "-1", "--format=%B").rstrip(b"\n") + b"\n"
     printed = f"done {history.repository.line('rev-parse', 'HEAD')}\n".encode()
     for moments in clocks:
-        fields = fields_of(before, ["cherry-pick", word], None, moments)
+        fields = fields_of(before, ["cherry-pick", word], who, moments)
         cases.add("run", fields, ["status", 0, printed, *changed(before, after)])
-    refused(cases, after, ["cherry-pick", word], "refused not-built\n")
+    refused(cases, after, ["cherry-pick", word], "refused not-built\n", 3, who)
 
 
 def add_picks(cases):
@@ -214,6 +284,16 @@ def add_picks(cases):
         history = History()
         history.repository.git("update-ref", "--create-reflog", "-m", "branch: Created", "refs/heads/side", history.add_b)
         add_pick(cases, history, history.add_b[:7] if word == "digits" else word, (MOMENT,))
+    cases.group("The same in repositories with a configuration, which names the committer where no variable does; the last setting of a key counts.")
+    for settings, who in [
+        ([], WHO),
+        ([("user.name", "Sam"), ("user.email", "sam@x"), ("core.repositoryformatversion", "1"), ("gitseq.jobs", "16")], []),
+        ([("user.name", "Ann"), ("user.email", "sam@x"), ("user.name", "Sam  S")], []),
+        ([("user.name", "Ann"), ("user.email", "sam@x")], WHO[:1]),
+    ]:
+        history = History()
+        history.set(*settings)
+        add_pick(cases, history, history.add_b, (MOMENT,), who=who)
 
 
 def add(cases):

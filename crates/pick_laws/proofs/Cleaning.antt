@@ -16,7 +16,9 @@ use Rattle.ref_store.specs.declared.fault.RefFault.{RefFault}
 use Rattle.ref_text.specs.Refs.{head_name}
 use Rattle.ref_text.specs.declared.head.Head.{Head}
 use Rattle.seq_model.specs.Committers.{committer_in}
-use Rattle.seq_model.specs.Pick.{Finding, Merging, clean_map, found, found_at, found_in, found_on, index_named, is_clean, merged_into, merged_onto, merging_of, only_parent, unmerged}
+use Rattle.seq_model.specs.Basis.{Basis, basis_at, index_named, unmerged}
+use Rattle.seq_model.specs.Settings.{settings_in}
+use Rattle.seq_model.specs.Pick.{Finding, Merging, clean_map, found, found_at, found_in, found_on, is_clean, merged_into, merged_onto, merging_of, only_parent}
 use Rattle.seq_model.specs.Refusing.{denied_file, refuse_found}
 use Rattle.seq_model.specs.Unbuilt.{only_built}
 use Rattle.seq_model.specs.declared.place.Place.{Place}
@@ -82,16 +84,24 @@ placed w place e =
     let here = ok_is (record { head = three.0; tip = four.0 }) one.0 four.2 in
     read_is (head_at w) three.0 three.1 ∙ ap (λ (p : Place). Ok p.head) here ∙ ap (λ (p : Place). Ok p.head) same
 
+based : (w : World) (basis : Basis) → basis_at w ≡ Ok basis → head_at w ≡ Ok basis.place.head
+unfolding basis_at
+based w basis e =
+    let one = bound (place_in w) _ basis e in
+    let two = bound (settings_in w) _ basis one.2 in
+    let three = bound (index_named w) _ basis two.2 in
+    let same = ok_is (record { place = one.0; settings = two.0; index = three.0 }) basis three.2 in
+    subst (λ (g : Basis). head_at w ≡ Ok g.place.head) same (placed w one.0 one.1)
+
 pub has_found : (vars : List (Name × Text)) (word : Text) (w : World) (finding : Finding) → found vars word w ≡ Ok finding → HasFound w finding
 unfolding found found_in found_at found_on
 has_found vars word w finding e =
     let one = bound (is_repository w) _ finding e in
     let two = bound (only_built w) _ finding one.2 in
-    let three = bound (place_in w) _ finding two.2 in
-    let four = bound (index_named w) _ finding three.2 in
-    let five = bound (commit_by w word) _ finding four.2 in
-    let six = bound (born three.0.tip) _ finding five.2 in
-    let seven = bound (committer_in vars) _ finding six.2 in
-    let eight = bound (merging_of w six.0 four.0 five.0) _ finding seven.2 in
-    let same = ok_is (record { on = three.0.head; head = six.0; committer = seven.0; merging = eight.0 }) finding eight.2 in
-    subst (HasFound w) same (record { on = placed w three.0 three.1; clean = merging_clean w six.0 four.0 five.0 eight.0 eight.1 })
+    let three = bound (basis_at w) _ finding two.2 in
+    let four = bound (commit_by w word) _ finding three.2 in
+    let five = bound (born three.0.place.tip) _ finding four.2 in
+    let six = bound (committer_in vars three.0.settings) _ finding five.2 in
+    let seven = bound (merging_of w five.0 three.0.index four.0) _ finding six.2 in
+    let same = ok_is (record { on = three.0.place.head; head = five.0; committer = six.0; merging = seven.0 }) finding seven.2 in
+    subst (HasFound w) same (record { on = based w three.0 three.1; clean = merging_clean w five.0 three.0.index four.0 seven.0 seven.1 })

@@ -19,7 +19,8 @@ use Rattle.seq_base.specs.Repository.{object_path}
 use Rattle.seq_base.specs.Words.{Id, Path, Text}
 use Rattle.seq_base.specs.World.{World, path_cmp}
 use Rattle.seq_base.proofs.Shape.{same_path}
-use Rattle.seq_model.specs.Making.{can_have, index_limit, message_path, switched_clear_to, switched_to}
+use Rattle.seq_model.specs.Basis.{index_limit}
+use Rattle.seq_model.specs.Making.{can_have, message_path, switched_clear_to, switched_to}
 use Rattle.seq_model.specs.Refusing.{denied_file, denied_git, refuse_found}
 use Rattle.seq_model.specs.declared.denial.Denial.{Denial}
 use Rattle.seq_model.specs.declared.denial.Denial.TheVariants.{Limit, Refused}

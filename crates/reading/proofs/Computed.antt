@@ -1,7 +1,7 @@
 -- The rows, computed.
 use Rattle.std.proofs.Common.{refl}
 use Rattle.seq_base.specs.World.{World}
-use Rattle.seq_model.specs.Pick.{unmerged}
+use Rattle.seq_model.specs.Basis.{unmerged}
 use Rattle.seq_outside.specs.declared.env.Env.{Env}
 use Rattle.stage_index.specs.Changes.{first_difference}
 use Rattle.worktree.specs.Switches.{unobstructed}

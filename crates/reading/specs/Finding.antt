@@ -8,7 +8,7 @@ use Rattle.path_trees.specs.Named.{commit_map, map_named}
 use Rattle.seq_base.specs.PathMaps.{Entries}
 use Rattle.seq_base.specs.Words.{Id, Text}
 use Rattle.seq_base.specs.World.{World}
-use Rattle.seq_model.specs.Making.{index_limit}
+use Rattle.seq_model.specs.Basis.{index_limit}
 use Rattle.seq_model.specs.declared.reason.Reason.{Reason}
 use Rattle.seq_model.specs.declared.reason.Reason.TheVariants as reason
 use Rattle.rev_names.specs.Revs.{rev_at}

@@ -10,8 +10,7 @@ use Rattle.ref_text.specs.Refs.{head_name}
 use Rattle.seq_base.specs.PathMaps.{Entries}
 use Rattle.seq_base.specs.Words.{Id, Path}
 use Rattle.seq_base.specs.World.{World}
-use Rattle.seq_model.specs.Making.{index_limit}
-use Rattle.seq_model.specs.Pick.{unmerged}
+use Rattle.seq_model.specs.Basis.{index_limit, unmerged}
 use Rattle.seq_model.specs.declared.reason.Reason.{Reason}
 use Rattle.seq_model.specs.declared.reason.Reason.TheVariants.{BadHead, BadIndex, Limit}
 use Rattle.seq_outside.specs.Halts.{◌>>=◌, for_reason, stop_found}

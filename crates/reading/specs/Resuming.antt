@@ -5,7 +5,7 @@ use Rattle.index_file.specs.declared.entry.IndexEntry.{IndexEntry}
 use Rattle.path_trees.specs.Named.{commit_map}
 use Rattle.seq_base.specs.Words.{Id, Path}
 use Rattle.seq_base.specs.World.{World}
-use Rattle.seq_model.specs.Pick.{unmerged}
+use Rattle.seq_model.specs.Basis.{unmerged}
 use Rattle.seq_model.specs.Refusing.{denied_file, or_refuse, refuse_found}
 use Rattle.seq_model.specs.declared.committer.Committer.{Committer}
 use Rattle.seq_model.specs.declared.denial.Denial.{Denial}

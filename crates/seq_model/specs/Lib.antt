@@ -10,6 +10,8 @@ pub mod Report
 pub mod Status
 pub mod Refusing
 pub mod Checks
+pub mod Settings
+pub mod Basis
 pub mod Unbuilt
 pub mod Committers
 pub mod Making

@@ -1,5 +1,5 @@
 -- What a clean pick makes: trees, index and files, a commit, and HEAD's new place (git-cherry-pick(1); gitrepository-layout(5)).
-use Rattle.std.specs.Prelude.{ℕ, nat_lt, is_none, List, [], ◌∷◌, ◌++◌, replicate, codes, length, if◌then◌else◌, Option, Some, None, Result, Ok, Err}
+use Rattle.std.specs.Prelude.{nat_lt, is_none, List, [], ◌∷◌, ◌++◌, replicate, codes, length, if◌then◌else◌, Option, Some, None, Result, Ok, Err}
 use Rattle.std.specs.Str.{bytes_eq}
 use Rattle.ident_text.specs.declared.ident.Ident.{Ident}
 use Rattle.ident_text.specs.Idents.{ident_text}
@@ -21,6 +21,7 @@ use Rattle.stage_index.specs.Changes.{staged}
 use Rattle.stage_index.specs.Stages.{Entries}
 use Rattle.stage_index.specs.Switching.{first_obstructed}
 use Rattle.worktree.specs.Switches.{switched_clear}
+use Rattle.seq_model.specs.Basis.{index_limit}
 use Rattle.seq_model.specs.Refusing.{denied_file, denied_git, refuse_found}
 use Rattle.seq_model.specs.declared.denial.Denial.{Denial}
 use Rattle.seq_model.specs.declared.denial.Denial.TheVariants.{Refused, Limit}
@@ -28,10 +29,6 @@ use Rattle.seq_model.specs.declared.refusal.Refusal.TheVariants.{NotBuilt, Would
 use Rattle.seq_outside.specs.declared.limit.LimitWhat.TheVariants.{IndexEntries}
 
 -- ---- trees, index and files
-
--- the most entries that an index may have
-abbrev pub index_limit : ℕ
-index_limit = 1048576
 
 -- a map that a commit on HEAD's map can have: not too large, and another than HEAD's
 unfoldable pub can_have : Entries → Entries → Result (Unit {0}) Denial

@@ -1,54 +1,33 @@
 -- One clean pick (git-cherry-pick(1)), by what the store holds.
-use Rattle.std.specs.Prelude.{not, nat_lt, List, [], ◌∷◌, length, if◌then◌else◌, Option, Result, Ok, Err}
-use Rattle.std.specs.List.{find}
-use Rattle.std.specs.Option.{option_map}
-use Rattle.index_file.specs.Index.{index_at}
+use Rattle.std.specs.Prelude.{List, [], ◌∷◌, Result, Ok, Err}
+use Rattle.config_text.specs.declared.config.Setting.{Setting}
 use Rattle.index_file.specs.declared.entry.IndexEntry.{IndexEntry}
-use Rattle.index_file.specs.declared.fault.IndexFault.{IndexFault}
 use Rattle.object_text.specs.declared.commit.Commit.{Commit as CommitFields}
 use Rattle.objects.specs.Named.{commit_named}
 use Rattle.path_trees.specs.Named.{commit_map, map_named}
-use Rattle.seq_base.specs.Words.{Id, Name, Path, Text}
+use Rattle.seq_base.specs.Words.{Id, Name, Text}
 use Rattle.seq_base.specs.World.{World}
 use Rattle.seq_outside.specs.Halts.{◌>>=◌, for_reason}
 use Rattle.stage_index.specs.Changes.{dirty}
-use Rattle.stage_index.specs.Stages.{is_merged}
 use Rattle.tree_merge.specs.Plans.{Entries, plan_of}
 use Rattle.tree_merge.specs.Results.{conflict_in, result_of}
 use Rattle.ref_text.specs.declared.head.Head.{Head}
-use Rattle.seq_model.specs.Checks.{born, commit_by, is_repository, place_in}
+use Rattle.seq_model.specs.Checks.{born, commit_by, is_repository}
 use Rattle.seq_model.specs.Committers.{committer_in}
+use Rattle.seq_model.specs.Basis.{basis_at, unmerged}
 use Rattle.seq_model.specs.Refusing.{denied_file, refuse_found}
-use Rattle.seq_model.specs.Making.{index_limit}
 use Rattle.seq_model.specs.Unbuilt.{only_built}
 use Rattle.seq_model.specs.declared.committer.Committer.{Committer}
 use Rattle.seq_model.specs.declared.place.Place.{Place}
 use Rattle.seq_model.specs.declared.denial.Denial.{Denial}
-use Rattle.seq_model.specs.declared.denial.Denial.TheVariants.{Refused, Limit}
-use Rattle.seq_model.specs.declared.refusal.Refusal.TheVariants.{NotBuilt, BadIndex, Unmerged, Dirty, Conflict}
-use Rattle.seq_outside.specs.declared.limit.LimitWhat.TheVariants.{IndexEntries}
-
--- ---- what is read
-
-abbrev pub or_bad_index : Result (List IndexEntry) IndexFault → Result (List IndexEntry) Denial
-or_bad_index (Ok entries) = Ok entries
-or_bad_index (Err fault) = Err (Refused (BadIndex fault))
-
--- the entries of the index
-unfoldable pub index_named : World → Result (List IndexEntry) Denial
-index_named w = do
-  entries ← or_bad_index (index_at w)
-  if nat_lt index_limit (length entries) then Err (Limit IndexEntries (length entries)) else Ok entries
+use Rattle.seq_model.specs.declared.denial.Denial.TheVariants.{Refused}
+use Rattle.seq_model.specs.declared.refusal.Refusal.TheVariants.{NotBuilt, Unmerged, Dirty, Conflict}
 
 -- what a merge without conflicts leaves
 unfoldable pub merged : Entries → Entries → Entries → Result Entries Denial
 merged base ours theirs = do
   clean ← refuse_found (conflict_in (plan_of base ours theirs)) Conflict
   Ok (result_of base ours theirs)
-
--- the first path that is not merged, which is the least
-unfoldable pub unmerged : List IndexEntry → Option Path
-unmerged index = option_map (λ e. e.path) (find (λ e. not (is_merged e)) index)
 
 -- index and files are those of HEAD
 unfoldable pub is_clean : World → List IndexEntry → Entries → Result (Unit {0}) Denial
@@ -103,25 +82,24 @@ pub record Finding : Type 0 where
   pub merging : Merging
 
 -- what the pick of a commit finds on HEAD, which is at a commit
-unfoldable pub found_on : List (Name × Text) → World → Head → Id → List IndexEntry → Id → Result Finding Denial
-found_on vars w on head index pick = do
-  committer ← committer_in vars
+unfoldable pub found_on : List (Name × Text) → World → Head → Id → List Setting → List IndexEntry → Id → Result Finding Denial
+found_on vars w on head settings index pick = do
+  committer ← committer_in vars settings
   merging ← merging_of w head index pick
   Ok (record { on = on; head = head; committer = committer; merging = merging })
 
 -- what the pick of the commit that a word names finds at a place
-unfoldable pub found_at : List (Name × Text) → Text → World → Place → List IndexEntry → Result Finding Denial
-found_at vars word w place index = do
+unfoldable pub found_at : List (Name × Text) → Text → World → Place → List Setting → List IndexEntry → Result Finding Denial
+found_at vars word w place settings index = do
   pick ← commit_by w word
   head ← born place.tip
-  found_on vars w place.head head index pick
+  found_on vars w place.head head settings index pick
 
 -- the same, in a repository of which all is taken
 unfoldable pub found_in : List (Name × Text) → Text → World → Result Finding Denial
 found_in vars word w = do
-  place ← place_in w
-  index ← index_named w
-  found_at vars word w place index
+  basis ← basis_at w
+  found_at vars word w basis.place basis.settings basis.index
 
 -- what the pick of the commit that a word names finds
 unfoldable pub found : List (Name × Text) → Text → World → Result Finding Denial

@@ -1,4 +1,4 @@
--- What stands in a repository that a pick does not take yet: another command in progress (git-status(1)), a configuration and hooks.
+-- What stands in a repository that a pick does not take yet: another command in progress (git-status(1)), and hooks.
 use Rattle.std.specs.Prelude.{ℕ, not, ◌==◌, List, [], ◌∷◌, length, codes, Result, Ok, is_some}
 use Rattle.std.specs.FinMap as map
 use Rattle.seq_base.specs.World.{World}
@@ -25,11 +25,11 @@ lacks_all w (path ∷ paths) = do
   one ← lacks w path
   lacks_all w paths
 
--- what shows that a command is in progress, and the configuration
+-- what shows that a command is in progress
 abbrev pub untaken_paths : List (List ℕ)
 untaken_paths =
     codes ".git/rebase-merge" ∷ codes ".git/sequencer" ∷ codes ".git/rebase-apply" ∷ codes ".git/CHERRY_PICK_HEAD" ∷ codes ".git/REVERT_HEAD" ∷ codes ".git/MERGE_HEAD"
-    ∷ codes ".git/config" ∷ []
+    ∷ []
 
 -- nothing stands that is not taken yet, nor a hook
 unfoldable pub only_built : World → Result (Unit {0}) Denial

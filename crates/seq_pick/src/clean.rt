@@ -8,12 +8,12 @@ ghost use Rattle.seq_outside.specs.Seen.{Reads};
 ghost use Rattle.seq_outside.specs.Halts.{Gives, halt_cause};
 ghost use Rattle.stage_index.specs.Least.{least};
 
-use crate::commits::commit_map;
 use index_file::IndexEntry;
 use seq_base::{Bytes, Id, Path, PathMap, comes_before};
 use seq_model::{Denial, Refusal, refused};
 use seq_outside::{Halt, Store};
 use stage_index::staged_path;
+use start_checks::commit_map;
 use std::alloc::{AllocError, Global};
 use worktree::first_change;
 

@@ -18,7 +18,6 @@ ghost use Rattle.seq_outside.specs.Seen.{Writes};
 ghost use Rattle.seq_outside.specs.Turns.{Turns, saying};
 ghost use Rattle.seq_pick.specs.Preparing.{IsReady, IsSomeIdent, prepared_is};
 
-use crate::halt::git_halt;
 use ident_text::{Ident, ident_text};
 use message_text::subject;
 use object_text::{Commit, Ids, Kind, commit_text};
@@ -28,6 +27,7 @@ use ref_text::{Head, LogLine};
 use seq_base::{Bytes, Id};
 use seq_model::{Committer, Denial};
 use seq_outside::{Halt, Store};
+use start_checks::git_halt;
 use std::alloc::{AllocError, Global};
 
 /// A pick whose commit is still to be made.

@@ -2,13 +2,10 @@
 #![tactic(auto)]
 
 mod clean;
-mod commits;
 mod committing;
-mod halt;
-mod identity;
-mod index;
 mod making;
 mod merging;
+mod parent;
 mod picking;
 mod unbuilt;
 

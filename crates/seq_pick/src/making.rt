@@ -15,8 +15,6 @@ ghost use Rattle.seq_pick.specs.Merging.{merging_is};
 ghost use Rattle.stage_index.specs.Switching.{first_obstructed};
 ghost use Rattle.worktree.specs.Switches.{switched_clear};
 
-use crate::halt::{file_halt, git_halt};
-use crate::index::INDEX_LIMIT;
 use crate::merging::Merging;
 use index_file::IndexEntry;
 use path_trees::write_trees;
@@ -24,6 +22,7 @@ use seq_base::{Bytes, Id, PathMap};
 use seq_model::{Denial, LimitWhat, Refusal, refused};
 use seq_outside::{Halt, Store, StoreError};
 use stage_index::{from_map, staged_path};
+use start_checks::{INDEX_LIMIT, file_halt, git_halt};
 use std::alloc::Global;
 use worktree::{obstructed_path, switch_clear};
 

@@ -9,13 +9,13 @@ ghost use Rattle.seq_outside.specs.Halts.{Gives, halt_cause};
 ghost use Rattle.seq_pick.specs.Merging.{merging_is};
 
 use crate::clean::clean_map;
-use crate::commits::{commit, commit_map, map, only_parent};
-use crate::index::refuse_unmerged;
+use crate::parent::only_parent;
 use index_file::IndexEntry;
 use object_text::Commit;
 use seq_base::{Bytes, Id, PathMap};
 use seq_model::{Denial, Refusal, refused};
 use seq_outside::{Halt, Store};
+use start_checks::{commit_map, commit_of, tree_map, want_merged};
 use std::alloc::Global;
 use tree_merge::{conflict, merged_map, plan};
 
@@ -65,7 +65,7 @@ fn merged_onto<S: Store>(
     ensures reads { Reads S.told halt_cause result (S.seen store.old) (S.seen store.new) }
 {
     let base = commit_map(alloc, parent, store)?;
-    let theirs = map(alloc, tree, store)?;
+    let theirs = tree_map(alloc, tree, store)?;
     merged(alloc, &base, ours, &theirs)
 }
 
@@ -86,7 +86,7 @@ fn merged_into<S: Store>(
     ensures reads { Reads S.told halt_cause result (S.seen store.old) (S.seen store.new) }
 {
     let parent = only_parent(&commit)?;
-    refuse_unmerged(alloc, &index)?;
+    want_merged(alloc, &index)?;
     let ours = clean_map(alloc, head, &index, store)?;
     let map = merged_onto(alloc, &ours, parent, commit.tree, store)?;
     Ok(Merging {
@@ -112,6 +112,6 @@ pub fn merge<S: Store>(
     ensures value { IfOk result (λ m. IsCommitValue m.commit) }
     ensures reads { Reads S.told halt_cause result (S.seen store.old) (S.seen store.new) }
 {
-    let commit = commit(alloc, pick, store)?;
+    let commit = commit_of(alloc, pick, store)?;
     merged_into(alloc, head, index, commit, store)
 }

@@ -14,17 +14,16 @@ ghost use Rattle.seq_pick.specs.Finding.{IsFound, finding_is};
 ghost use Rattle.seq_pick.specs.Preparing.{IsReady, prepared_is};
 
 use crate::committing::{Prepared, commit_pick};
-use crate::identity::committer;
-use crate::index::index;
 use crate::making::make_merge;
 use crate::merging::{Merging, merge};
 use crate::unbuilt::refuse_unbuilt;
+use config_text::Config;
 use index_file::IndexEntry;
 use ref_text::Head;
 use seq_base::{Bytes, Id};
 use seq_model::{Committer, Denial, Place};
 use seq_outside::{Halt, Store};
-use start_checks::{born, commit_by, place_in, want_repository};
+use start_checks::{Basis, born, commit_by, committer, read_basis, want_repository};
 use std::alloc::Global;
 
 /// What a pick finds.
@@ -45,17 +44,18 @@ fn find_on<S: Store>(
     vars: &[(Bytes, Bytes)],
     on: Head,
     head: Id,
+    config: &Config,
     index: Vec<IndexEntry>,
     pick: Id,
     store: &mut S,
 ) -> Result<Finding, Halt<Denial>>
     requires on { IsHeadValue on }
     requires order { IsInOrder index.items }
-    ensures gives { S.told → Gives finding_is result (found_on vars.now (S.seen store.old).content on head index.items pick) }
+    ensures gives { S.told → Gives finding_is result (found_on vars.now (S.seen store.old).content on head config.now index.items pick) }
     ensures found { IfOk result IsFound }
     ensures reads { Reads S.told halt_cause result (S.seen store.old) (S.seen store.new) }
 {
-    let committer = committer(alloc, vars)?;
+    let committer = committer(alloc, vars, config)?;
     let merging = merge(alloc, head, index, pick, store)?;
     Ok(Finding {
         on,
@@ -72,18 +72,19 @@ fn find_at<S: Store>(
     vars: &[(Bytes, Bytes)],
     word: &[u8],
     place: Place,
+    config: &Config,
     index: Vec<IndexEntry>,
     store: &mut S,
 ) -> Result<Finding, Halt<Denial>>
     requires on { IsHeadValue place.head }
     requires order { IsInOrder index.items }
-    ensures gives { S.told → Gives finding_is result (found_at vars.now word.now (S.seen store.old).content place index.items) }
+    ensures gives { S.told → Gives finding_is result (found_at vars.now word.now (S.seen store.old).content place config.now index.items) }
     ensures found { IfOk result IsFound }
     ensures reads { Reads S.told halt_cause result (S.seen store.old) (S.seen store.new) }
 {
     let pick = commit_by(alloc, word, store)?;
     let head = born(place.tip)?;
-    find_on(alloc, vars, place.head, head, index, pick, store)
+    find_on(alloc, vars, place.head, head, config, index, pick, store)
 }
 
 /// The same, in a repository of which all is taken.
@@ -98,9 +99,12 @@ fn find_in<S: Store>(
     ensures found { IfOk result IsFound }
     ensures reads { Reads S.told halt_cause result (S.seen store.old) (S.seen store.new) }
 {
-    let place = place_in(alloc, store)?;
-    let index = index(alloc, store)?;
-    find_at(alloc, vars, word, place, index, store)
+    let Basis {
+        place,
+        config,
+        index,
+    } = read_basis(alloc, store)?;
+    find_at(alloc, vars, word, place, &config, index, store)
 }
 
 /// What the pick of the commit that a word names finds.

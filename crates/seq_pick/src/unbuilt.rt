@@ -54,19 +54,18 @@ fn refuse_any<S: Store>(alloc: Global, paths: &[&[u8]], store: &mut S) -> Result
     Ok(())
 }
 
-/// Refuses where a command is in progress, or a configuration stands.
+/// Refuses where a command is in progress.
 fn refuse_untaken<S: Store>(alloc: Global, store: &mut S) -> Result<(), Halt<Denial>>
     ensures gives { S.told → Gives (λ x. x) result (lacks_all (S.seen store.old).content untaken_paths) }
     ensures reads { Reads S.told halt_cause result (S.seen store.old) (S.seen store.new) }
 {
-    let paths: [&[u8]; 7] = [
+    let paths: [&[u8]; 6] = [
         b".git/rebase-merge",
         b".git/sequencer",
         b".git/rebase-apply",
         b".git/CHERRY_PICK_HEAD",
         b".git/REVERT_HEAD",
         b".git/MERGE_HEAD",
-        b".git/config",
     ];
     refuse_any(alloc, &paths, store)
 }

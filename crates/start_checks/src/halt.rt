@@ -1,4 +1,4 @@
-//! Why a step of a pick gives no value.
+//! What is refused where something is lacked.
 
 ghost use Rattle.std.specs.Prelude.{◌≡◌};
 ghost use Rattle.seq_model.specs.Refusing.{denied_file as denied_file_of, denied_git as denied_git_of, told_by};

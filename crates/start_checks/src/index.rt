@@ -3,10 +3,10 @@
 ghost use Rattle.std.specs.Prelude.{◌≡◌, IfOk, IsErrOf, not};
 ghost use Rattle.std.specs.List.{find};
 ghost use Rattle.std.specs.Option.{option_map};
-ghost use Rattle.index_file.specs.Entries.{IsInOrder};
+ghost use Rattle.index_file.specs.Entries.{IsIndex};
 ghost use Rattle.index_file.specs.Index.{index_at};
 ghost use Rattle.index_file.specs.Reading.{index_of};
-ghost use Rattle.seq_model.specs.Pick.{index_named, or_bad_index, unmerged as unmerged_of};
+ghost use Rattle.seq_model.specs.Basis.{index_named, or_bad_index, unmerged as unmerged_of};
 ghost use Rattle.seq_model.specs.Refusing.{refuse_found};
 ghost use Rattle.seq_outside.specs.Seen.{Reads};
 ghost use Rattle.seq_outside.specs.Halts.{Gives, halt_cause};
@@ -24,7 +24,7 @@ pub const INDEX_LIMIT: usize = 1_048_576;
 /// The entries that the text of an index spells.
 fn entries_in(alloc: Global, text: &[u8]) -> Result<Vec<IndexEntry>, Halt<Denial>>
     ensures gives { Gives (λ v. v.items) result (or_bad_index (index_of text.now)) }
-    ensures order { IfOk result (λ v. IsInOrder v.items) }
+    ensures index { IfOk result (λ v. IsIndex v.items) }
     ensures no_fault { IsErrOf result Halt.Fault → ⊥ }
 {
     match parse_index(alloc, text) {
@@ -35,9 +35,10 @@ fn entries_in(alloc: Global, text: &[u8]) -> Result<Vec<IndexEntry>, Halt<Denial
 }
 
 /// The entries of the index file, of which a missing one has none.
+#[tactic(auto, using(crate::proofs::Indexes::empty_index))]
 fn entries_of<S: Store>(alloc: Global, store: &mut S) -> Result<Vec<IndexEntry>, Halt<Denial>>
     ensures gives { S.told → Gives (λ v. v.items) result (or_bad_index (index_at (S.seen store.old).content)) }
-    ensures order { IfOk result (λ v. IsInOrder v.items) }
+    ensures index { IfOk result (λ v. IsIndex v.items) }
     ensures reads { Reads S.told halt_cause result (S.seen store.old) (S.seen store.new) }
 {
     match store.get(alloc, b".git/index")? {
@@ -46,11 +47,11 @@ fn entries_of<S: Store>(alloc: Global, store: &mut S) -> Result<Vec<IndexEntry>,
     }
 }
 
-/// The entries of the index.
-#[tactic(auto, unfolding(seq_model::specs::Pick::index_named))]
-pub fn index<S: Store>(alloc: Global, store: &mut S) -> Result<Vec<IndexEntry>, Halt<Denial>>
+/// The entries of the index (gitformat-index(5)); a missing file has none. BadIndex with its first fault; Limit where it has too many.
+#[tactic(auto, unfolding(seq_model::specs::Basis::index_named))]
+pub fn read_index<S: Store>(alloc: Global, store: &mut S) -> Result<Vec<IndexEntry>, Halt<Denial>>
     ensures gives { S.told → Gives (λ v. v.items) result (index_named (S.seen store.old).content) }
-    ensures order { IfOk result (λ v. IsInOrder v.items) }
+    ensures index { IfOk result (λ v. IsIndex v.items) }
     ensures reads { Reads S.told halt_cause result (S.seen store.old) (S.seen store.new) }
 {
     let entries = entries_of(alloc, store)?;
@@ -71,9 +72,9 @@ fn unmerged(entries: &[IndexEntry]) -> Option<&IndexEntry>
     entries.iter().find(|entry| entry.stage != 0)
 }
 
-/// Refuses where an entry is not merged.
-#[tactic(auto, unfolding(seq_model::specs::Pick::unmerged))]
-pub fn refuse_unmerged(alloc: Global, entries: &[IndexEntry]) -> Result<(), Halt<Denial>>
+/// Unmerged with the first path that is not merged, which is the least (git-ls-files(1), `--unmerged`).
+#[tactic(auto, unfolding(seq_model::specs::Basis::unmerged))]
+pub fn want_merged(alloc: Global, entries: &[IndexEntry]) -> Result<(), Halt<Denial>>
     ensures gives { Gives (λ x. x) result (refuse_found (unmerged_of entries.now) Refusal.Unmerged) }
     ensures no_fault { IsErrOf result Halt.Fault → ⊥ }
 {
