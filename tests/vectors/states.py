@@ -235,15 +235,15 @@ def author_of(repository, name):
     return next(row[7:] for row in repository.git("cat-file", "commit", name).split(b"\n") if row.startswith(b"author "))
 
 
-def add_rebases(cases):
-    cases.group("Files that `git rebase -i` leaves where it stops: at `break`, at `edit`, at a conflict, and where a command failed.")
+def rebases():
+    """A repository, the list that stopped in it, and files of which git says the same."""
     told = ["head-name", "orig-head", "onto", "interactive", "git-rebase-todo", "done", "msgnum", "end", "rewritten-list", "amend", "REBASE_HEAD"]
     sequence = Sequence()
     lines = [sequence.line("pick", 0), sequence.line("pick", 1), b"break", b"label here", sequence.line("pick", 2)]
     sequence.rebase(lines)
     new = sequence.repository.line("rev-list", "--reverse", f"{sequence.onto}..HEAD").split()
     k = sequence.control(lines[:3], lines[3:]) | {"rewritten": list(zip(sequence.commits, new))}
-    add_git_files(cases, "rebase", sequence.repository, k, told)
+    yield sequence.repository, k, told
 
     sequence = Sequence()
     repository = sequence.repository
@@ -254,7 +254,7 @@ def add_rebases(cases):
     pending = {"form": ["amend"], "edit": True, "author": author, "encoding": b"", "message": b"one\n"}
     k = sequence.control(lines[:2], lines[2:]) | {"stopped_commit": sequence.commits[0], "pending": pending, "stop": "edit", "labels": [b"onto"]}
     k |= {"updates": [(b"refs/heads/x", sequence.commits[1], None)]}
-    add_git_files(cases, "rebase", repository, k, [*told[:-3], "author-script", "amend", "REBASE_HEAD", "refs-to-delete", "update-refs"])
+    yield repository, k, [*told[:-3], "author-script", "amend", "REBASE_HEAD", "refs-to-delete", "update-refs"]
 
     sequence = Sequence()
     repository = sequence.repository
@@ -267,18 +267,24 @@ def add_rebases(cases):
     pending = {"form": ["new"], "edit": False, "author": author, "encoding": b"", "message": b"two\n"}
     k = sequence.control(lines[:2], lines[2:]) | {"stopped_commit": sequence.commits[1], "pending": pending, "stop": "conflict"}
     k |= {"rewritten": [(sequence.commits[0], repository.line("rev-parse", "HEAD"))]}
-    add_git_files(cases, "rebase", repository, k, [*told, "author-script"])
+    yield repository, k, [*told, "author-script"]
 
     sequence = Sequence()
     sequence.repository.git("checkout", "-q", "--detach")
     lines = [b"exec false", sequence.line("pick", 0)]
     sequence.rebase(lines, "--no-reschedule-failed-exec")
     k = sequence.control(lines[:1], lines[1:]) | {"head_name": b"", "stop": "exec-failed"}
-    add_git_files(cases, "rebase", sequence.repository, k, told)
+    yield sequence.repository, k, told
 
 
-def add_sequences(cases):
-    cases.group("Files that `git cherry-pick` and `git revert` leave where they stop at a conflict; of the options one at a time.")
+def add_rebases(cases):
+    cases.group("Files that `git rebase -i` leaves where it stops: at `break`, at `edit`, at a conflict, and where a command failed.")
+    for repository, k, names in rebases():
+        add_git_files(cases, "rebase", repository, k, names)
+
+
+def sequences():
+    """The same of a cherry-pick and of a revert."""
     for options in ([], ["-x"], ["-m", "1"], ["--allow-empty"]):
         sequence = Sequence()
         repository = sequence.repository
@@ -293,9 +299,10 @@ def add_sequences(cases):
         author = author_of(repository, commits[0])
         pending = {"form": ["new"], "edit": False, "author": author, "encoding": b"", "message": b"one\n"}
         k = plain("cherry-pick", head, head) | {"stopped_commit": commits[0], "pending": pending, "stop": "conflict"}
+        k |= {"done": [b"pick " + commits[0].encode()], "left": [b"pick " + commits[1].encode()]}
         k |= {"record-origin": "-x" in options, "mainline": int("-m" in options), "allow-empty": "--allow-empty" in options}
         names = ["head", "abort-safety", "CHERRY_PICK_HEAD", "REVERT_HEAD", "REBASE_HEAD", "MERGE_HEAD"]
-        add_git_files(cases, "cherry-pick", repository, k, names + (["opts"] if options else []))
+        yield repository, k, names + (["opts"] if options else [])
     sequence = Sequence()
     repository = sequence.repository
     sequence.add("one", b"other\n")
@@ -304,7 +311,14 @@ def add_sequences(cases):
     assert status == 1, said
     pending = {"form": ["new"], "edit": False, "author": b"", "encoding": b"", "message": b"Revert\n"}
     k = plain("revert", head, head) | {"stopped_commit": sequence.commits[0], "pending": pending, "stop": "conflict"}
-    add_git_files(cases, "revert", repository, k, ["head", "abort-safety", "CHERRY_PICK_HEAD", "REVERT_HEAD", "REBASE_HEAD", "MERGE_HEAD"])
+    k |= {"done": [b"revert " + sequence.commits[0].encode()], "left": [b"revert " + sequence.commits[1].encode()]}
+    yield repository, k, ["head", "abort-safety", "CHERRY_PICK_HEAD", "REVERT_HEAD", "REBASE_HEAD", "MERGE_HEAD"]
+
+
+def add_sequences(cases):
+    cases.group("Files that `git cherry-pick` and `git revert` leave where they stop at a conflict; of the options one at a time.")
+    for repository, k, names in sequences():
+        add_git_files(cases, k["verb"], repository, k, names)
 
 
 def writes(rows):

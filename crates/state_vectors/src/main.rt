@@ -1,9 +1,11 @@
-//! Reads cases from standard input, one a line, and prints what `state_text` answers: line N of what is printed answers line N. A case is a
-//! verb and its fields. A line that is empty or begins with `#` is printed as it is.
+//! Reads cases from standard input, one a line, and prints what `state_text` and `state_found` answer: line N of what is printed answers
+//! line N. A case is a verb and its fields. A line that is empty or begins with `#` is printed as it is.
 #![tactic(auto)]
 
 mod controls;
+mod found;
 mod states;
+mod told;
 mod verbs;
 mod words;
 

@@ -1,9 +1,9 @@
 //! The verbs.
 
-use crate::states;
+use crate::{found, states};
 use cases::{Case, CaseFault, Verbs};
 
-/// The verbs of the crate state_text.
+/// The verbs of the crates state_text and state_found.
 pub struct StateVerbs;
 
 impl Verbs for StateVerbs {
@@ -14,6 +14,7 @@ impl Verbs for StateVerbs {
             "state-file" => states::file(case)?,
             "stop-writes" => states::stop(case)?,
             "end-writes" => states::end(case)?,
+            "read-state" => found::found(case)?,
             _ => return Ok(false),
         }
         Ok(true)

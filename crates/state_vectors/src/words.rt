@@ -51,3 +51,47 @@ pub fn stop(word: &str) -> Result<StopWord, CaseFault> {
         _ => Err(CaseFault::Form),
     }
 }
+
+pub fn verb_word(verb: Verb) -> &'static [u8] {
+    match verb {
+        Verb::Rebase => b"rebase",
+        Verb::CherryPick => b"cherry-pick",
+        Verb::Revert => b"revert",
+    }
+}
+
+pub fn empty_word(empty: Empty) -> &'static [u8] {
+    match empty {
+        Empty::Drop => b"drop",
+        Empty::Keep => b"keep",
+        Empty::Stop => b"stop",
+    }
+}
+
+pub fn chain_word(kind: ChainKind) -> &'static [u8] {
+    match kind {
+        ChainKind::First => b"pick",
+        ChainKind::Squash => b"squash",
+        ChainKind::Fixup => b"fixup",
+        ChainKind::Keep => b"fixup-keep",
+        ChainKind::KeepEdit => b"fixup-edit",
+    }
+}
+
+pub fn stop_word(stop: StopWord) -> &'static [u8] {
+    match stop {
+        StopWord::Conflict => b"conflict",
+        StopWord::Edit => b"edit",
+        StopWord::Break => b"break",
+        StopWord::ExecFailed => b"exec-failed",
+        StopWord::ExecDirty => b"exec-dirty",
+        StopWord::Empty => b"empty",
+        StopWord::HookRefused => b"hook-refused",
+        StopWord::EditorFailed => b"editor-failed",
+        StopWord::EmptyMessage => b"empty-message",
+        StopWord::DriverBroken => b"driver-broken",
+        StopWord::Blocked => b"blocked",
+        StopWord::TodoBad => b"todo-bad",
+        StopWord::RefMoved => b"ref-moved",
+    }
+}

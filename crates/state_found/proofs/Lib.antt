@@ -1,0 +1,15 @@
+pub mod FileLaws
+pub mod LeftLaws
+pub mod PendingLaws
+pub mod RebaseLaws
+pub mod SequenceLaws
+pub mod AgreeLaws
+pub mod JudgeLaws
+pub mod ToldLaws
+pub mod FoundLaws
+pub mod SequenceFound
+pub mod FolderLaws
+pub mod OneLaws
+pub mod StateLaws
+pub mod StopLaws
+pub mod EditLaws
