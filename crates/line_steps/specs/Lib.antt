@@ -1,0 +1,10 @@
+pub mod Places
+pub mod Layers
+pub mod Making
+pub mod Heads
+pub mod Finding
+pub mod Writing
+pub mod Hooks
+pub mod Lines
+pub mod Picks
+pub mod Steps
