@@ -13,8 +13,8 @@ use Rattle.seq_outside.specs.Doing.{◌>>=◌, Does, End, Goes, Starves, Stops, 
 use Rattle.seq_outside.specs.Tape.{Ask, Coming, Ended}
 use Rattle.seq_outside.specs.declared.child.Job.{Job}
 use Rattle.reading.specs.Apart.{Alike, AsksAlike, EndsAlike, GoesApart, ReadsApart}
-use Rattle.reading.specs.Finding.{Picked, base_at, found_at, sides_at, theirs_at}
-use Rattle.reading.specs.Heads.{index_found}
+use Rattle.line_steps.specs.Finding.{Picked, base_at, ours_at, sides_at, theirs_at}
+use Rattle.line_steps.specs.Heads.{index_found}
 
 -- ---- what is read
 
@@ -31,7 +31,7 @@ module _ (a b : World) (alike : Alike a b) where
   unfolding object_named
   named-apart id = rw (object-apart id, oversize-apart id) refl
 
-  commit-apart : (id : Id) → commit_named a id ≡ commit_named b id
+  pub commit-apart : (id : Id) → commit_named a id ≡ commit_named b id
   unfolding commit_named
   commit-apart id = rw (named-apart id) refl
 
@@ -66,7 +66,7 @@ module _ (a b : World) (alike : Alike a b) where
       let maps : map_named a ≡ map_named b = fun_ext map_named-apart in
       rw (maps, commit-apart id) refl
 
-  index-apart : index_found a ≡ index_found b
+  pub index-apart : index_found a ≡ index_found b
   unfolding index_found
   index-apart = rw (alike (codes ".git/index") refl) refl
 
@@ -82,11 +82,9 @@ module _ (a b : World) (alike : Alike a b) where
   unfolding sides_at
   sides-apart ours pick = rw (base-apart pick.parent, theirs-apart pick) refl
 
-  found-apart : (head : Id) → found_at head a ≡ found_at head b
-  unfolding found_at
-  found-apart head =
-      let maps : map_named a ≡ map_named b = fun_ext map_named-apart in
-      rw (maps, commit-apart head, index-apart) refl
+  pub ours-apart : (tree : Id) → ours_at tree a ≡ ours_at tree b
+  unfolding ours_at
+  ours-apart tree = rw (map_named-apart tree) refl
 
 -- commits, maps and the index are read without the files of a list
 pub commits_apart : (id : Id) → ReadsApart (λ w. commit_named w id)
@@ -97,9 +95,6 @@ maps_apart id a b alike = commit_map-apart a b alike id
 
 pub indices_apart : ReadsApart index_found
 indices_apart a b alike = index-apart a b alike
-
-pub founds_apart : (head : Id) → ReadsApart (found_at head)
-founds_apart head a b alike = found-apart a b alike head
 
 pub all_sides_apart : (ours : Entries) (pick : Picked) → ReadsApart (sides_at ours pick)
 all_sides_apart ours pick a b alike = sides-apart a b alike ours pick

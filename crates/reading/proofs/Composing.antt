@@ -7,7 +7,7 @@ use Rattle.seq_outside.specs.Tape.{asks, coming}
 use Rattle.seq_outside.proofs.Seeing.{sees_nothing}
 use Rattle.state_text.specs.declared.control.Control.{Control}
 use Rattle.state_text.specs.declared.control.Left.{Left}
-use Rattle.reading.specs.Places.{Place}
+use Rattle.line_steps.specs.declared.place.Place.{Place}
 use Rattle.reading.specs.Readings.{ending_of, read_by}
 use Rattle.reading.specs.Stages.{Pause}
 

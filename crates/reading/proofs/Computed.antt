@@ -5,13 +5,15 @@ use Rattle.seq_model.specs.Basis.{unmerged}
 use Rattle.seq_outside.specs.declared.env.Env.{Env}
 use Rattle.stage_index.specs.Changes.{first_difference}
 use Rattle.worktree.specs.Switches.{unobstructed}
-use Rattle.reading.specs.Beginning.{asked_child, pre_rebase_does}
+use Rattle.child_steps.specs.Children.{asked, child_does, has_hook, hook_asked}
+use Rattle.reading.specs.Beginning.{pre_rebase_does}
 use Rattle.reading.specs.Ending.{all_writable, none_moved}
-use Rattle.reading.specs.Finding.{may_stand}
-use Rattle.reading.specs.Hooks.{hook_does, hook_ends}
-use Rattle.reading.specs.Layers.{Layers, Setting}
-use Rattle.reading.specs.Lines.{break_does, exec_does}
-use Rattle.reading.specs.Picks.{conflict_does}
+use Rattle.line_steps.specs.Finding.{may_stand}
+use Rattle.line_steps.specs.Hooks.{has_hook as is_there, hook_does, hook_ends, job_does}
+use Rattle.line_steps.specs.declared.setting.Setting.{Setting}
+use Rattle.reading.specs.Opening.{Checks}
+use Rattle.line_steps.specs.Lines.{break_does, exec_does, exec_looks, exec_takes}
+use Rattle.line_steps.specs.Picks.{conflict_does}
 use Rattle.reading.specs.Resuming.{may_continue, resumes}
 use Rattle.reading.specs.Rows.{BecomesEmpty, Breaks, Conflicts, DriverBreaks, ExecFails, ExecLeavesDirt, Forwards, HookRuns, InTheWay}
 use Rattle.reading.specs.Rows.{BelowAnother, BranchMoved, FailedWords, KeepsLines, NothingRewritten, Pairs, ReadsUntil, TodoIsBad}
@@ -22,8 +24,9 @@ use Rattle.state_text.specs.declared.control.Control.{Control}
 use Rattle.reading.specs.Rows.{CountsLines, GivesUp, IsDenied, KeepsFiles, StartIsTold}
 use Rattle.reading.specs.Tapes.{Again, Turn}
 use Rattle.reading.specs.Rows.{MadeByUser, ResolvedToNothing, StagedPast, StartIsRefused, TakesOut, TurnsApart, Unresolved}
-use Rattle.reading.specs.Stages.{before_line_does, head_does, line_does, lines_do, look_does}
-use Rattle.reading.specs.Writing.{switched_with}
+use Rattle.line_steps.specs.Steps.{line_does}
+use Rattle.reading.specs.Stages.{before_line_does, head_does, line_goes, lines_do, look_does}
+use Rattle.line_steps.specs.Writing.{switched_with}
 
 -- ---- lines
 
@@ -42,30 +45,30 @@ pub in_the_way : (w : World) → InTheWay w
 unfolding switched_with may_stand unobstructed
 in_the_way w is = (rw is refl, refl, refl)
 
-pub driver_breaks : (layers : Layers) (setting : Setting) (w : World) → DriverBreaks layers setting w
-driver_breaks layers setting w = (refl, refl)
+pub driver_breaks : (setting : Setting) (w : World) → DriverBreaks setting w
+driver_breaks setting w = (refl, refl)
 
 pub becomes_empty : (w : World) → BecomesEmpty w
 unfolding break_does first_difference
 becomes_empty w = (refl, refl, refl, refl)
 
 pub exec_fails : (w : World) → ExecFails w
-unfolding exec_does
+unfolding exec_does job_does
 exec_fails w again = refl
 
 pub exec_leaves_dirt : (w : World) → ExecLeavesDirt w
-unfolding exec_does
+unfolding exec_does exec_looks exec_takes job_does
 exec_leaves_dirt w head clean = rw (head, clean) refl
 
 pub hook_runs : (w : World) → HookRuns w
-unfolding hook_does hook_ends
+unfolding hook_does hook_ends job_does is_there
 hook_runs w = (λ none. rw none refl, λ some. rw some refl)
 
 -- ---- the list
 
-pub reads_until : (layers : Layers) (setting : Setting) (w : World) → ReadsUntil layers setting w
-unfolding lines_do before_line_does head_does look_does line_does break_does
-reads_until layers setting w head = rw (head, head) refl
+pub reads_until : (setting : Setting) (w : World) → ReadsUntil setting w
+unfolding lines_do line_goes before_line_does head_does look_does line_does break_does
+reads_until setting w head = rw (head, head) refl
 
 pub keeps_lines : KeepsLines
 keeps_lines = (refl, refl, refl)
@@ -93,7 +96,7 @@ below_another w is = rw is refl
 -- ---- turns
 
 pub start_is_refused : (w : World) → StartIsRefused w
-unfolding pre_rebase_does asked_child
+unfolding pre_rebase_does hook_asked has_hook asked child_does
 start_is_refused w there = rw there refl
 
 pub turns_apart : (env : Env) (w : World) → TurnsApart env w
@@ -106,8 +109,8 @@ unresolved w = refl
 pub staged_past : StagedPast
 staged_past = refl
 
-pub made_by_user : (layers : Layers) (setting : Setting) (w : World) → MadeByUser layers setting w
-made_by_user layers setting w = (refl, refl)
+pub made_by_user : (setting : Setting) (w : World) → MadeByUser setting w
+made_by_user setting w = (refl, refl)
 
 pub resolved_to_nothing : (w : World) → ResolvedToNothing w
 unfolding break_does
@@ -125,12 +128,12 @@ keeps_files = (refl, refl)
 pub counts_lines : (w : World) → CountsLines w
 counts_lines w = (refl, refl, refl)
 
-pub start_is_told : (setting : Setting) (w : World) → StartIsTold setting w
-start_is_told setting w = (refl, refl)
+pub start_is_told : (setting : Setting) → StartIsTold setting
+start_is_told setting = (refl, refl)
 
 pub gives_up : GivesUp
 gives_up = (refl, refl, refl)
 
-pub is_denied : (layers : Layers) (turn : Turn) (again : Again) (k : Control) (denial : Denial) → IsDenied layers turn again k denial
+pub is_denied : (checks : Checks) (turn : Turn) (again : Again) (k : Control) (denial : Denial) → IsDenied checks turn again k denial
 unfolding resumes
-is_denied layers turn again k denial is = rw is refl
+is_denied checks turn again k denial is = rw is refl

@@ -4,7 +4,13 @@ pub mod Lefts
 pub mod Meant
 pub mod Kept
 pub mod Files
+pub mod Telling
 pub mod Leaving
 pub mod Lists
 pub mod Apart
+pub mod FoundApart
+pub mod RefsApart
+pub mod PlainPaths
+pub mod CleanApart
+pub mod LinesApart
 pub mod Computed

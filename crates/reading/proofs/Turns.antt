@@ -2,7 +2,7 @@
 use Rattle.std.proofs.Common.{◌≡◌, List, [], ◌∷◌, ◌++◌, refl, ap}
 use Rattle.seq_outside.specs.Tape.{Coming, SawChild, SawDrivers, SawMoment, all_ended, coming, ended_of}
 use Rattle.seq_outside.specs.Tape.{Event as Seen}
-use Rattle.reading.specs.Layers.{Layers}
+use Rattle.reading.specs.Opening.{Checks}
 use Rattle.reading.specs.Readings.{Reading, follow, meaning, turned}
 use Rattle.reading.specs.Starting.{Start}
 use Rattle.reading.specs.Tapes.{Begins, Call, Child, Drivers, Event, Moment, Turn, calls, events_of, seen_first, this_call}
@@ -41,13 +41,13 @@ calls-more (Child e ∷ tape) turn seen = calls-more tape turn seen
 calls-more (Drivers es ∷ tape) turn seen = calls-more tape turn seen
 calls-more (Moment secs ∷ tape) turn seen = calls-more tape turn seen
 
-follow-more : (layers : Layers) (reading : Reading) (xs ys : List Call)
-    → follow layers reading (xs ++ ys) ≡ follow layers (follow layers reading xs) ys
-follow-more layers reading [] ys = refl
-follow-more layers reading (call ∷ xs) ys = follow-more layers (turned layers reading.ending call.turn call.coming) xs ys
+follow-more : (checks : Checks) (reading : Reading) (xs ys : List Call)
+    → follow checks reading (xs ++ ys) ≡ follow checks (follow checks reading xs) ys
+follow-more checks reading [] ys = refl
+follow-more checks reading (call ∷ xs) ys = follow-more checks (turned checks reading.ending call.turn call.coming) xs ys
 
 -- the meaning over one call more is a turn over the meaning so far
-pub meaning-more : (layers : Layers) (start : Start) (tape : List Event) (turn : Turn) (seen : List Seen)
-    → meaning layers start (tape ++ this_call turn seen) ≡ turned layers (meaning layers start tape).ending turn (coming seen)
+pub meaning-more : (checks : Checks) (start : Start) (tape : List Event) (turn : Turn) (seen : List Seen)
+    → meaning checks start (tape ++ this_call turn seen) ≡ turned checks (meaning checks start tape).ending turn (coming seen)
 unfolding one_call meaning
-meaning-more layers start tape turn seen = rw (calls-more tape turn seen) (follow-more layers _ (calls tape) (one_call turn seen))
+meaning-more checks start tape turn seen = rw (calls-more tape turn seen) (follow-more checks _ (calls tape) (one_call turn seen))

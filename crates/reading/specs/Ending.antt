@@ -18,20 +18,13 @@ use Rattle.seq_outside.specs.Halts.{for_reason}
 use Rattle.seq_outside.specs.Turns.{◌>>=◌, Turn, gives, looks, saying}
 use Rattle.state_text.specs.declared.control.Control.{Control}
 use Rattle.state_text.specs.declared.control.RefUpdate.{RefUpdate}
-use Rattle.reading.specs.Layers.{Setting}
-use Rattle.reading.specs.Places.{Stop, stop_of}
-use Rattle.reading.specs.Writing.{reason_of_ref, turn_ident}
+use Rattle.line_steps.specs.declared.setting.Setting.{Setting}
+use Rattle.line_steps.specs.Places.{stop_of}
+use Rattle.line_steps.specs.declared.stop.Stop.{Stop}
+use Rattle.line_steps.specs.Writing.{reason_of_ref, turn_ident}
+pub use Rattle.reading.specs.declared.end_ref.EndRef.{EndRef}
 
 -- ---- the refs
-
--- A ref of the end: what it has to have, what it gets, and what its log is told. It is that of an `update-ref` line, or the branch that is
--- rebased.
-pub record EndRef : Type 0 where
-  pub name : Name
-  pub expected : Option Id
-  pub new : Option Id
-  pub message : Text
-  pub is_update : Bool
 
 abbrev pub update_ref : RefUpdate → EndRef
 update_ref u = record { name = u.name; expected = u.expected; new = u.new; message = codes "rewritten during rebase"; is_update = true }
@@ -88,8 +81,9 @@ all_writable refs w = barred_stop (find (λ (r : EndRef). is_barred w r.name || 
 abbrev pub ref_stop : RefFault → Stop
 ref_stop fault = stop_of (Blocked (reason_of_ref fault))
 
+-- (an id of zeros alone stands for no value)
 abbrev pub line_for : Setting → Option Id → Id → Text → LogLine
-line_for setting old new message = record { old = old; new = new; ident = turn_ident setting; message = message }
+line_for setting old new message = record { old = option_and_then value_of old; new = new; ident = turn_ident setting; message = message }
 
 abbrev pub ref_written : Setting → EndRef → Option Id → Turn Stop (Unit {0})
 ref_written setting r None = gives tt
@@ -116,7 +110,7 @@ head_detached head = do
   detached_from head on
 
 abbrev pub returning_line : Setting → Id → Name → LogLine
-returning_line setting head name = line_for setting (value_of head) head (codes "rebase (finish): returning to " ++ name)
+returning_line setting head name = line_for setting (Some head) head (codes "rebase (finish): returning to " ++ name)
 
 -- HEAD is attached again; a rebase that began detached leaves it so, at the result
 abbrev pub head_attached : Setting → Id → Option Name → Turn Stop (Unit {0})
@@ -128,9 +122,13 @@ end_written setting k head refs = do
   _ ← refs_written setting refs
   head_attached setting head k.head_name
 
--- The refs of a list that has used every line: all are compared before any is written.
-unfoldable pub refs_ended : Setting → Control → Id → List RefUpdate → Turn Stop (Unit {0})
-refs_ended setting k head updates = do
-  _ ← looks (none_moved (end_refs k head updates))
-  _ ← looks (all_writable (end_refs k head updates))
-  end_written setting k head (end_refs k head updates)
+-- all refs are compared before any is written
+unfoldable pub all_ended : Setting → Control → Id → List EndRef → Turn Stop (Unit {0})
+all_ended setting k head refs = do
+  _ ← looks (none_moved refs)
+  _ ← looks (all_writable refs)
+  end_written setting k head refs
+
+-- The refs of a list that has used every line.
+abbrev pub refs_ended : Setting → Control → Id → List RefUpdate → Turn Stop (Unit {0})
+refs_ended setting k head updates = all_ended setting k head (end_refs k head updates)

@@ -4,15 +4,24 @@ use Rattle.std.specs.Prelude.{ℕ, true, false, if◌then◌else◌, List, [], �
 use Rattle.std.specs.List.{list_any}
 use Rattle.std.specs.Str.{bytes_eq}
 use Rattle.hex.specs.Hex.{encode_lower}
+use Rattle.index_file.specs.declared.entry.IndexEntry.{IndexEntry}
+use Rattle.ref_text.specs.declared.log.LogLine.{LogLine}
+use Rattle.seq_base.specs.PathMaps.{Entries}
 use Rattle.seq_base.specs.Words.{Id, Text}
+use Rattle.seq_base.specs.World.{World}
+use Rattle.state_text.specs.Texts.{zeros}
 use Rattle.state_text.specs.declared.options.Empty.{Empty}
 use Rattle.state_text.specs.declared.options.Empty.TheVariants as empty
 use Rattle.seq_model.specs.declared.reason.Reason.{Reason}
+use Rattle.seq_model.specs.declared.reason.Reason.TheVariants as reason
 use Rattle.seq_model.specs.declared.stop.StopKind.{StopKind}
 use Rattle.seq_model.specs.declared.stop.StopKind.TheVariants as kind
-use Rattle.seq_outside.specs.Doing.{◌>>=◌, Does, Starves, ended_with, gives, looks, makes, places, saying, stops}
+use Rattle.seq_outside.specs.Doing.{◌>>=◌, Does, Starves, ended_with, gives, looks, places, saying, stops}
+use Rattle.seq_outside.specs.Halts.{for_reason}
 use Rattle.seq_outside.specs.declared.lack.Lack.{Lack}
+use Rattle.stage_index.specs.Mapping.{mapped}
 use Rattle.stage_index.specs.Stages.{map_of}
+use Rattle.stage_index.specs.declared.fault.StageFault.{StageFault}
 use Rattle.worktree.specs.ResetTurns.{reset_to}
 use Rattle.todo_text.specs.declared.todo_kind.TodoKind.{TodoKind}
 use Rattle.state_text.specs.declared.control.Control.{Control}
@@ -23,20 +32,24 @@ use Rattle.state_text.specs.declared.control.Left.{Left}
 use Rattle.state_text.specs.declared.control.Pending.{Pending}
 use Rattle.state_text.specs.declared.stop_word.StopWord.{StopWord}
 use Rattle.state_text.specs.declared.stop_word.StopWord.TheVariants as stop
-use Rattle.reading.specs.Finding.{Found, found_at}
-use Rattle.reading.specs.Heads.{index_found, map_found}
-use Rattle.reading.specs.Hooks.{hook_does}
-use Rattle.reading.specs.Layers.{EditorFailed, EmptyMessage, HookRefused, Lacks, Layers, Made, MakeStop, Making, Setting, Source}
-use Rattle.reading.specs.Layers as source
-use Rattle.reading.specs.Picks.{unseen_within}
-use Rattle.reading.specs.Places.{Doing, Place, Stop, heads, reason_of, stop_of}
+use Rattle.line_steps.specs.Finding.{Found, found_at, map_held}
+use Rattle.line_steps.specs.Heads.{index_found, map_found}
+use Rattle.line_steps.specs.Hooks.{hook_does}
+use Rattle.line_steps.specs.Layers.{EditorFailed, EmptyMessage, HookRefused, Lacks, Made, MakeStop, Making, Source}
+use Rattle.line_steps.specs.declared.setting.Setting.{Setting}
+use Rattle.line_steps.specs.Making.{commits_by}
+use Rattle.line_steps.specs.Layers as source
+use Rattle.line_steps.specs.Picks.{unseen_within}
+use Rattle.line_steps.specs.Places.{Doing, heads, reads, reason_of, stop_of, writes}
+use Rattle.line_steps.specs.declared.place.Place.{Place}
+use Rattle.line_steps.specs.declared.stop.Stop.{Stop}
 use Rattle.reading.specs.Resuming.{Going, has_moved, resets_at}
 use Rattle.reading.specs.State.{begun, with_state}
 use Rattle.reading.specs.Stages.{Pause, between, left_as, lines_do, paused_at}
-use Rattle.reading.specs.Starting.{Start, onto_switched}
+use Rattle.reading.specs.Starting.{Planned, Start, onto_switched}
 use Rattle.reading.specs.Tapes.{Again, Continue, Skip}
 use Rattle.reading.specs.Todos.{fault_of, todo_lines}
-use Rattle.reading.specs.Writing.{head_moved, is_same, line_of, tree_put}
+use Rattle.line_steps.specs.Writing.{head_moved, is_same, line_of, tree_put}
 
 -- ---- a pending commit
 
@@ -87,24 +100,52 @@ pending_making head parents tree pending = record {
   source = pending_source pending.form;
 }
 
+abbrev pub continue_line : Id → Made → LogLine
+continue_line head made = line_of (codes "continue") made.subject head made.id made.ident
+
+-- the hook of a commit that was made is run
+unfoldable pub hook_waits_once : Option Id → Doing (Unit {0})
+hook_waits_once commit = do
+  _ ← hook_does (codes "post-commit") [] []
+  waits_once commit
+
+-- HEAD is at a commit that was made
+unfoldable pub continued_heads : Id → Option Id → Doing (Unit {0})
+continued_heads id commit = do
+  _ ← heads id
+  hook_waits_once commit
+
 -- HEAD goes to the commit that was made, and its hook is run
 unfoldable pub continued_does : Control → Pending → Id → Made → Doing (Unit {0})
 continued_does k pending head made = do
-  _ ← saying (pending_blocked k pending) (makes (head_moved head made.id (line_of (codes "continue") made.subject head made.id made.ident)))
-  _ ← heads made.id
-  _ ← hook_does (codes "post-commit") [] []
-  waits_once k.stopped_commit
+  _ ← writes (pending_blocked k pending) (head_moved head made.id (continue_line head made))
+  continued_heads made.id k.stopped_commit
 
--- the pending commit is made of the index's map
-unfoldable pub pending_does : Layers → Setting → Control → Pending → Id → Found → Doing (Unit {0})
-pending_does layers setting k pending head found = do
-  tree ← saying (pending_lacks k pending) (makes (tree_put found (map_of found.index)))
-  made ← saying (pending_unmade k pending) (unseen_within (layers.commits setting (pending_making head found.parents tree pending)))
+-- the pending commit has this tree
+unfoldable pub pending_tree_does : Setting → Control → Pending → Id → List Id → Id → Doing (Unit {0})
+pending_tree_does setting k pending head parents tree = do
+  made ← saying (pending_unmade k pending) (unseen_within (commits_by setting (pending_making head parents tree pending)))
   continued_does k pending head made
 
--- a commit whose conflict was resolved to nothing
+-- the pending commit is made of this map
+unfoldable pub pending_map_does : Setting → Control → Pending → Id → Found → Entries → Doing (Unit {0})
+pending_map_does setting k pending head found m = do
+  tree ← writes (pending_lacks k pending) (tree_put found m)
+  pending_tree_does setting k pending head found.parents tree
+
+-- whatever is at fault, the index is bad
+abbrev pub pending_misfit : Control → Pending → StageFault → Stop
+pending_misfit k pending fault = pending_blocked k pending reason.BadIndex
+
+-- the pending commit is made of the index's map
+unfoldable pub pending_does : Setting → Control → Pending → Id → Found → Doing (Unit {0})
+pending_does setting k pending head found = do
+  m ← looks (λ w. for_reason (pending_misfit k pending) (mapped found.index))
+  pending_map_does setting k pending head found m
+
+-- a commit whose conflict was resolved to nothing; an id of zeros, where it is not told which
 abbrev pub stop_empty : Control → Pending → Stop
-stop_empty k pending = pending_stop k (record pending { edit = true }) (kind.Empty (unwrap_or k.stopped_commit []))
+stop_empty k pending = pending_stop k (record pending { edit = true }) (kind.Empty (unwrap_or k.stopped_commit zeros))
 
 abbrev pub resolved_empty : Empty → Stop → Doing (Unit {0}) → Doing (Unit {0})
 resolved_empty empty.Drop emptied commits = gives tt
@@ -121,43 +162,54 @@ abbrev pub unless_nothing_staged : Control → Pending → Found → Doing (Unit
 unless_nothing_staged k pending found commits =
     if is_same (map_of found.index) found.ours then if_nothing_staged k.stop k.options.empty (stop_empty k pending) commits else commits
 
-unfoldable pub commit_pending : Layers → Going → Control → Pending → Doing (Unit {0})
-commit_pending layers going k pending = do
-  found ← saying (pending_blocked k pending) (looks (found_at going.head))
-  unless_nothing_staged k pending found (pending_does layers going.setting k pending going.head found)
+unfoldable pub commit_pending : Setting → Control → Pending → Id → Doing (Unit {0})
+commit_pending setting k pending head = do
+  found ← reads (pending_blocked k pending) (found_at head)
+  unless_nothing_staged k pending found (pending_does setting k pending head found)
 
 -- The pending commit is made. Where HEAD has moved, the user made it.
-abbrev pub continue_does : Layers → Going → Control → Option Pending → Doing (Unit {0})
-continue_does layers going k None = gives tt
-continue_does layers going k (Some pending) = if has_moved k going.head then waits_once k.stopped_commit else commit_pending layers going k pending
+abbrev pub continue_does : Going → Control → Option Pending → Doing (Unit {0})
+continue_does going k None = gives tt
+continue_does going k (Some pending) =
+    if has_moved k going.head then waits_once k.stopped_commit else commit_pending going.setting k pending going.head
 
 -- ---- skip
 
+-- what is lacked between lines
+abbrev pub between_lines : Lack → Stop
+between_lines lack = between (reason_of lack)
+
+-- index and files are HEAD's
 unfoldable pub reset_does : Going → Doing (Unit {0})
 reset_does going = do
-  ours ← saying between (looks (λ w. map_found w going.head))
-  saying (λ lack. between (reason_of lack)) (makes (reset_to going.index ours))
+  ours ← reads between_lines (map_held going.head)
+  writes between_lines (reset_to going.index ours)
 
 abbrev pub skip_does : Going → Control → Doing (Unit {0})
 skip_does going k = if resets_at k.stop then reset_does going else gives tt
 
 -- ---- a turn
 
-abbrev pub acts : Layers → Again → Going → Control → Doing (Unit {0})
-acts layers Continue going k = continue_does layers going k k.pending
-acts layers Skip going k = skip_does going k
+abbrev pub acts : Again → Going → Control → Doing (Unit {0})
+acts Continue going k = continue_does going k k.pending
+acts Skip going k = skip_does going k
 
-unfoldable pub resume_does : Layers → Again → Going → Control → Doing (Unit {0})
-resume_does layers again going k = do
-  _ ← left_as (begun k)
+unfoldable pub resume_from : Again → Going → Control → Doing (Unit {0})
+resume_from again going k = do
   _ ← heads going.head
-  acts layers again going k
+  acts again going k
+
+-- an invocation is at work first
+unfoldable pub resume_does : Again → Going → Control → Doing (Unit {0})
+resume_does again going k = do
+  _ ← left_as (begun k)
+  resume_from again going k
 
 -- a turn that goes on: first with what the last one left pending, then with the lines that are left
-unfoldable pub goes_on : Layers → Again → Going → Control → Does Place Pause (Unit {0})
-goes_on layers again going k = do
-  _ ← saying (paused_at 0) (resume_does layers again going k)
-  lines_do layers going.setting k going.left 0
+unfoldable pub goes_on : Again → Going → Control → Does Place Pause (Unit {0})
+goes_on again going k = do
+  _ ← saying (paused_at 0) (resume_does again going k)
+  lines_do going.setting k going.left 0
 
 -- ---- a start
 
@@ -165,29 +217,53 @@ goes_on layers again going k = do
 abbrev pub checkout_words : Control → List Text
 checkout_words k = encode_lower k.orig ∷ encode_lower k.onto ∷ codes "1" ∷ []
 
-unfoldable pub start_does : Setting → Start → Doing (Unit {0})
-start_does setting start = do
-  index ← saying between (looks index_found)
-  onto ← saying between (looks (λ w. map_found w start.control.onto))
-  _ ← left_as (λ w. begun start.control (with_state start.control w))
-  _ ← saying between (makes (onto_switched setting start index onto))
-  _ ← heads start.control.onto
-  hook_does (codes "post-checkout") (checkout_words start.control) []
+-- HEAD is at onto, and the hook is told so
+unfoldable pub start_heads : Control → Doing (Unit {0})
+start_heads k = do
+  _ ← heads k.onto
+  hook_does (codes "post-checkout") (checkout_words k) []
+
+-- index, files and HEAD go to onto
+unfoldable pub start_onto : Setting → Planned → List IndexEntry → Entries → Doing (Unit {0})
+start_onto setting plan index onto = do
+  _ ← writes between (onto_switched setting plan index onto)
+  start_heads plan.control
+
+-- the files of the list are there first
+unfoldable pub start_from : Setting → Planned → List IndexEntry → Entries → Doing (Unit {0})
+start_from setting plan index onto = do
+  _ ← left_as (λ w. begun plan.control (with_state plan.control w))
+  start_onto setting plan index onto
+
+unfoldable pub start_does : Setting → Planned → Doing (Unit {0})
+start_does setting plan = do
+  index ← reads between index_found
+  onto ← reads between (λ w. map_found w plan.control.onto)
+  start_from setting plan index onto
 
 abbrev pub todo_stop : ℕ × TodoKind → Stop
 todo_stop at = stop_of (kind.TodoBad at.0 at.1)
 
--- the first bad line of a todo that does not read
+-- the first bad line of a todo that does not read (no start that was checked has another)
 abbrev pub todo_bad : Option (ℕ × TodoKind) → Does Place Pause (Unit {0})
 todo_bad None = ended_with Starves
 todo_bad (Some at) = stops (paused_at 0 (todo_stop at))
 
-abbrev pub left_do : Layers → Setting → Start → Left → Does Place Pause (Unit {0})
-left_do layers setting start (Lines lines) = lines_do layers setting start.control lines 0
-left_do layers setting start (Raw todo) = todo_bad (fault_of (todo_lines start.world false todo))
+-- the first bad line of what is left, where that does not read, by the world in which it was checked
+abbrev pub bad_in : World → Left → Option (ℕ × TodoKind)
+bad_in w (Lines lines) = None
+bad_in w (Raw todo) = fault_of (todo_lines w false todo)
 
--- a turn that starts: index, files and HEAD at onto, and then the lines
-unfoldable pub begins : Layers → Setting → Start → Does Place Pause (Unit {0})
-begins layers setting start = do
-  _ ← saying (paused_at 0) (start_does setting start)
-  left_do layers setting start start.control.left
+abbrev pub left_do : Setting → Control → Option (ℕ × TodoKind) → Left → Does Place Pause (Unit {0})
+left_do setting k bad (Lines lines) = lines_do setting k lines 0
+left_do setting k bad (Raw todo) = todo_bad bad
+
+-- index, files and HEAD at onto, and then the lines
+unfoldable pub begins_with : Setting → Planned → Option (ℕ × TodoKind) → Does Place Pause (Unit {0})
+begins_with setting plan bad = do
+  _ ← saying (paused_at 0) (start_does setting plan)
+  left_do setting plan.control bad plan.control.left
+
+-- a turn that starts
+abbrev pub begins : Setting → Start → Does Place Pause (Unit {0})
+begins setting start = begins_with setting start.plan (bad_in start.world start.plan.control.left)

@@ -4,7 +4,7 @@ use Rattle.seq_base.specs.World.{World}
 use Rattle.seq_model.specs.declared.outcome.Outcome.{Outcome}
 use Rattle.seq_outside.specs.Tape.{Event as Seen}
 use Rattle.reading.specs.Laws.{AnswersAsFound, AnswersAsRead}
-use Rattle.reading.specs.Layers.{Layers}
+use Rattle.reading.specs.Opening.{Checks}
 use Rattle.reading.specs.Readings.{Denied, Done, Ending, Heard, Starved, Stopped, Unstarted, Verdict, judged, meaning}
 use Rattle.reading.specs.Standing.{IsQuiet, Stands}
 use Rattle.reading.specs.Starting.{Start}
@@ -21,9 +21,9 @@ pub record Invocation : Type 0 where
   pub left : World
 
 -- each answers as the control that it finds is gone on with
-abbrev pub AllAsFound : Layers → List Invocation → Type 0
-AllAsFound layers [] = Unit {0}
-AllAsFound layers (i ∷ is) = AnswersAsFound layers i.again i.turn i.seen i.outcome i.left × AllAsFound layers is
+abbrev pub AllAsFound : Checks → List Invocation → Type 0
+AllAsFound checks [] = Unit {0}
+AllAsFound checks (i ∷ is) = AnswersAsFound checks i.again i.turn i.seen i.outcome i.left × AllAsFound checks is
 
 -- between them the files of the list stay, but for its todo
 abbrev pub AllQuiet : World → List Invocation → Type 0
@@ -43,15 +43,15 @@ ByVerdict (Denied denial) ending same further = same
 ByVerdict Heard ending same further = IfStopped ending further
 
 -- each answers what one uninterrupted reading over all turns so far gives
-abbrev pub AllAsRead : Layers → Start → List Event → List Invocation → Type 0
-AllAsRead layers start tape [] = Unit {0}
-AllAsRead layers start tape (i ∷ is) =
-    AnswersAsRead layers i.again i.turn i.seen i.outcome i.left start tape
-    × ByVerdict (judged layers i.again i.turn (meaning layers start tape).ending) (meaning layers start (tape ++ this_call i.turn i.seen)).ending
-    (AllAsRead layers start tape is) (AllAsRead layers start (tape ++ this_call i.turn i.seen) is)
+abbrev pub AllAsRead : Checks → Start → List Event → List Invocation → Type 0
+AllAsRead checks start tape [] = Unit {0}
+AllAsRead checks start tape (i ∷ is) =
+    AnswersAsRead checks i.again i.turn i.seen i.outcome i.left start tape
+    × ByVerdict (judged checks i.again i.turn (meaning checks start tape).ending) (meaning checks start (tape ++ this_call i.turn i.seen)).ending
+    (AllAsRead checks start tape is) (AllAsRead checks start (tape ++ this_call i.turn i.seen) is)
 
 -- Invocations that answer as what they find is gone on with answer what one reading gives, for every start and tape at which the first finds
 -- the store, whatever is done between them but to the files of the list.
-abbrev pub AreMeant : Layers → Type 0
-AreMeant layers = (start : Start) (tape : List Event) (w : World) (is : List Invocation)
-    → Stands layers (meaning layers start tape).ending w → AllQuiet w is → AllAsFound layers is → AllAsRead layers start tape is
+abbrev pub AreMeant : Checks → Type 0
+AreMeant checks = (start : Start) (tape : List Event) (w : World) (is : List Invocation)
+    → Stands (meaning checks start tape).ending w → AllQuiet w is → AllAsFound checks is → AllAsRead checks start tape is

@@ -15,8 +15,10 @@ use Rattle.state_text.specs.declared.control.Left.{Left}
 use Rattle.state_text.specs.declared.stop_word.StopWord.{StopWord}
 use Rattle.state_text.specs.declared.stop_word.StopWord.TheVariants as stop
 use Rattle.reading.specs.Going.{begins, goes_on}
-use Rattle.reading.specs.Layers.{Layers, Setting}
-use Rattle.reading.specs.Places.{Place, place_of, with_place}
+use Rattle.line_steps.specs.declared.setting.Setting.{Setting}
+use Rattle.line_steps.specs.Places.{place_of, with_place}
+use Rattle.line_steps.specs.declared.place.Place.{Place}
+use Rattle.reading.specs.Opening.{Checks}
 use Rattle.reading.specs.Resuming.{Going, resumes}
 use Rattle.reading.specs.Settings.{setting_at}
 use Rattle.reading.specs.Stages.{Pause}
@@ -112,45 +114,49 @@ starved = record { ending = Starved; asked = [] }
 abbrev pub spot_of : Control → World → Spot Place
 spot_of k w = record { world = w; place = place_of k }
 
-abbrev pub gone_on : Layers → Again → Control → World → Coming → Result Going Denial → Reading
-gone_on layers again k w coming (Ok going) = read_by k (Lines going.left) (goes_on layers again going k (spot_of k w) coming)
-gone_on layers again k w coming (Err denial) = starved
+abbrev pub gone_on : Again → Control → World → Coming → Result Going Denial → Reading
+gone_on again k w coming (Ok going) = read_by k (Lines going.left) (goes_on again going k (spot_of k w) coming)
+gone_on again k w coming (Err denial) = starved
+
+-- whether a turn goes on with a stopped list
+abbrev pub resumes_in : Checks → Again → Turn → Control → Result Going Denial
+resumes_in checks again turn k = resumes checks again turn.env turn.secs k turn.world
 
 -- a stopped list is gone on with
-unfoldable pub resumed : Layers → Again → Turn → Control → Coming → Reading
-resumed layers again turn k coming = gone_on layers again k turn.world coming (resumes layers again turn k turn.world)
+unfoldable pub resumed : Checks → Again → Turn → Control → Coming → Reading
+resumed checks again turn k coming = gone_on again k turn.world coming (resumes_in checks again turn k)
 
-abbrev pub begun_with : Layers → Start → Coming → Result Setting Denial → Reading
-begun_with layers start coming (Ok setting) =
-    read_by start.control start.control.left (begins layers setting start (spot_of start.control start.world) coming)
-begun_with layers start coming (Err denial) = starved
+abbrev pub begun_with : Start → Coming → Result Setting Denial → Reading
+begun_with start coming (Ok setting) =
+    let k = start.plan.control in read_by k k.left (begins setting start (spot_of k start.world) coming)
+begun_with start coming (Err denial) = starved
 
 -- a list is started
-unfoldable pub started : Layers → Turn → Start → Coming → Reading
-started layers turn start coming = begun_with layers start coming (setting_at layers turn)
+unfoldable pub started : Checks → Turn → Start → Coming → Reading
+started checks turn start coming = begun_with start coming (setting_at checks turn.env turn.secs turn.world)
 
-abbrev pub first_turn : Layers → Action → Turn → Start → Coming → Reading
-first_turn layers action.Start turn start coming = started layers turn start coming
-first_turn layers (action.Goes again) turn start coming = starved
+abbrev pub first_turn : Checks → Action → Turn → Start → Coming → Reading
+first_turn checks action.Start turn start coming = started checks turn start coming
+first_turn checks (action.Goes again) turn start coming = starved
 
-abbrev pub next_turn : Layers → Action → Turn → Control → Coming → Reading
-next_turn layers action.Start turn k coming = starved
-next_turn layers (action.Goes again) turn k coming = resumed layers again turn k coming
+abbrev pub next_turn : Checks → Action → Turn → Control → Coming → Reading
+next_turn checks action.Start turn k coming = starved
+next_turn checks (action.Goes again) turn k coming = resumed checks again turn k coming
 
 -- one turn more
-abbrev pub turned : Layers → Ending → Turn → Coming → Reading
-turned layers (Unstarted start) turn coming = first_turn layers turn.action turn start coming
-turned layers (Done w) turn coming = starved
-turned layers (Stopped why failed k w) turn coming = next_turn layers turn.action turn k coming
-turned layers Starved turn coming = starved
+abbrev pub turned : Checks → Ending → Turn → Coming → Reading
+turned checks (Unstarted start) turn coming = first_turn checks turn.action turn start coming
+turned checks (Done w) turn coming = starved
+turned checks (Stopped why failed k w) turn coming = next_turn checks turn.action turn k coming
+turned checks Starved turn coming = starved
 
-abbrev pub follow : Layers → Reading → List Call → Reading
-follow layers reading [] = reading
-follow layers reading (call ∷ calls) = follow layers (turned layers reading.ending call.turn call.coming) calls
+abbrev pub follow : Checks → Reading → List Call → Reading
+follow checks reading [] = reading
+follow checks reading (call ∷ calls) = follow checks (turned checks reading.ending call.turn call.coming) calls
 
 -- What a todo means over all turns of a tape, from its start on.
-unfoldable pub meaning : Layers → Start → List Event → Reading
-meaning layers start tape = follow layers (record { ending = Unstarted start; asked = [] }) (calls tape)
+unfoldable pub meaning : Checks → Start → List Event → Reading
+meaning checks start tape = follow checks (record { ending = Unstarted start; asked = [] }) (calls tape)
 
 -- ---- whether a turn is heard
 
@@ -164,8 +170,8 @@ verdict_of (Ok going) = Heard
 verdict_of (Err denial) = Denied denial
 
 -- A turn that goes on with a reading. Where no list is in progress there is nothing to go on with.
-abbrev pub judged : Layers → Again → Turn → Ending → Verdict
-judged layers again turn (Unstarted start) = Denied (Refused NothingInProgress)
-judged layers again turn (Done w) = Denied (Refused NothingInProgress)
-judged layers again turn (Stopped why failed k w) = verdict_of (resumes layers again turn k turn.world)
-judged layers again turn Starved = Denied (Refused NothingInProgress)
+abbrev pub judged : Checks → Again → Turn → Ending → Verdict
+judged checks again turn (Unstarted start) = Denied (Refused NothingInProgress)
+judged checks again turn (Done w) = Denied (Refused NothingInProgress)
+judged checks again turn (Stopped why failed k w) = verdict_of (resumes_in checks again turn k)
+judged checks again turn Starved = Denied (Refused NothingInProgress)

@@ -1,5 +1,5 @@
 -- Whether a stopped list is gone on with, as it is found (git-rebase(1), "--continue" and "--skip").
-use Rattle.std.specs.Prelude.{Bool, true, false, not, ◌||◌, if◌then◌else◌, List, drop, is_none, Option, Some, None, Result, Ok, Err}
+use Rattle.std.specs.Prelude.{ℤ, Bool, true, false, not, ◌||◌, if◌then◌else◌, List, drop, is_none, Option, Some, None, Result, Ok, Err}
 use Rattle.std.specs.Str.{bytes_eq}
 use Rattle.index_file.specs.declared.entry.IndexEntry.{IndexEntry}
 use Rattle.path_trees.specs.Named.{commit_map}
@@ -7,11 +7,11 @@ use Rattle.seq_base.specs.Words.{Id, Path}
 use Rattle.seq_base.specs.World.{World}
 use Rattle.seq_model.specs.Basis.{unmerged}
 use Rattle.seq_model.specs.Refusing.{denied_file, or_refuse, refuse_found}
-use Rattle.seq_model.specs.declared.committer.Committer.{Committer}
 use Rattle.seq_model.specs.declared.denial.Denial.{Denial}
 use Rattle.seq_model.specs.declared.denial.Denial.TheVariants.{Refused}
 use Rattle.seq_model.specs.declared.refusal.Refusal.TheVariants as refusal
 use Rattle.seq_outside.specs.Halts.{◌>>=◌, for_reason}
+use Rattle.seq_outside.specs.declared.env.Env.{Env}
 use Rattle.stage_index.specs.Changes.{changed, staged}
 use Rattle.worktree.specs.Resets.{rows_readable}
 use Rattle.todo_text.specs.declared.line.Line.{Line}
@@ -21,16 +21,12 @@ use Rattle.state_text.specs.declared.control.Form.{Form}
 use Rattle.state_text.specs.declared.control.Pending.{Pending}
 use Rattle.state_text.specs.declared.stop_word.StopWord.{StopWord}
 use Rattle.state_text.specs.declared.stop_word.StopWord.TheVariants as stop
-use Rattle.reading.specs.Layers.{Layers, Opened, Setting}
-use Rattle.reading.specs.Tapes.{Again, Continue, Skip, Turn}
+use Rattle.line_steps.specs.declared.setting.Setting.{Setting}
+use Rattle.line_steps.specs.Finding.{map_held}
+use Rattle.reading.specs.Opening.{Checks, Opened, opened_at}
+use Rattle.reading.specs.Tapes.{Again, Continue, Skip}
 use Rattle.reading.specs.Todos.{todo_read}
-
--- what a turn goes on with: what it is given, the lines that are left, and HEAD's commit and the index as they are found
-pub record Going : Type 0 where
-  pub setting : Setting
-  pub left : List Line
-  pub head : Id
-  pub index : List IndexEntry
+pub use Rattle.reading.specs.declared.going.Going.{Going}
 
 -- ---- continue
 
@@ -84,7 +80,7 @@ was_put_back k _ = false
 -- index and files can be reset
 unfoldable pub may_reset : Id → World → Result (Unit {0}) Denial
 may_reset head w = do
-  ours ← for_reason denied_file (commit_map w head)
+  ours ← for_reason denied_file (map_held head w)
   for_reason denied_file (rows_readable w ours)
 
 abbrev pub may_go : Again → Control → Id → List IndexEntry → World → Result (Unit {0}) Denial
@@ -97,20 +93,22 @@ abbrev pub lines_after : Again → Control → List Line → List Line
 lines_after Continue k lines = lines
 lines_after Skip k lines = if was_put_back k k.stop then drop 1 lines else lines
 
-abbrev pub going_with : Turn → Opened → Committer → Id → List Line → Going
-going_with turn opened committer head lines = record {
-  setting = record { env = turn.env; secs = turn.secs; config = opened.config; committer = committer };
-  left = lines;
-  head = head;
-  index = opened.index;
-}
+-- HEAD is at this commit, and the turn is given this
+unfoldable pub resumes_at : Again → Control → List Line → List IndexEntry → Id → Setting → World → Result Going Denial
+resumes_at again k lines index head setting w = do
+  _ ← may_go again k head index w
+  Ok (record { setting = setting; left = lines_after again k lines; head = head; index = index })
+
+-- these are its lines
+unfoldable pub resumes_with : Checks → Again → Env → ℤ → Control → Opened → List Line → World → Result Going Denial
+resumes_with checks again env secs k opened lines w = do
+  head ← or_refuse opened.head refusal.UnbornHead
+  committer ← checks.committer_in env.vars opened.config
+  resumes_at again k lines opened.index head (record { env = env; secs = secs; config = opened.config; committer = committer }) w
 
 -- The list is gone on with, or it is denied. A turn that is denied changes nothing.
-unfoldable pub resumes : Layers → Again → Turn → Control → World → Result Going Denial
-resumes layers again turn k w = do
-  opened ← layers.opens w
+unfoldable pub resumes : Checks → Again → Env → ℤ → Control → World → Result Going Denial
+resumes checks again env secs k w = do
+  opened ← opened_at checks w
   lines ← todo_read k w
-  head ← or_refuse opened.head refusal.UnbornHead
-  committer ← layers.committer_of turn.env opened.config
-  _ ← may_go again k head opened.index w
-  Ok (going_with turn opened committer head (lines_after again k lines))
+  resumes_with checks again env secs k opened lines w

@@ -41,21 +41,28 @@ use Rattle.todo_text.specs.declared.todo_kind.TodoKind.TheVariants as todo
 use Rattle.reading.specs.Aborting.{head_before, name_before}
 use Rattle.reading.specs.Beginning.{denied, pre_rebase_does}
 use Rattle.reading.specs.Ending.{EndRef, all_writable, end_refs, none_moved, update_ref}
-use Rattle.reading.specs.Finding.{Found, Picked}
+use Rattle.line_steps.specs.Finding.{Found, Picked}
 use Rattle.reading.specs.Going.{continue_does, if_nothing_staged, stop_empty, todo_bad}
-use Rattle.reading.specs.Heads.{IsChanged, clean_at, head_found}
-use Rattle.reading.specs.Hooks.{hook_does, hook_path}
-use Rattle.reading.specs.Layers.{Broken, Layers, Setting, Sides}
-use Rattle.reading.specs.Lines.{break_does, exec_does}
-use Rattle.reading.specs.Picks.{Picking, at_broken, conflict_does, goes_forward, merged_does, pending_of, stop_with, unless_empty}
-use Rattle.reading.specs.Places.{Doing, Place, Stop, blocked, blocked_at, lacked_at, place_of, stop_of}
-use Rattle.reading.specs.Readings.{Denied, kept_after, verdict_of, word_of}
-use Rattle.reading.specs.Resuming.{Going, lines_after, may_continue, resumes, staged_refused}
+use Rattle.line_steps.specs.Heads.{clean_at, head_found}
+use Rattle.line_steps.specs.declared.unclean.Unclean.TheVariants.{IsChanged}
+use Rattle.line_steps.specs.Hooks.{hook_does, hook_path}
+use Rattle.content_merge.specs.declared.merged.Merged.TheVariants.{Broken}
+use Rattle.line_steps.specs.Layers.{Sides}
+use Rattle.line_steps.specs.declared.setting.Setting.{Setting}
+use Rattle.line_steps.specs.Making.{makers}
+use Rattle.line_steps.specs.Lines.{break_does, exec_does}
+use Rattle.line_steps.specs.Picks.{Picking, at_broken, conflict_does, goes_forward, merged_does, pending_of, stop_with, unless_empty}
+use Rattle.line_steps.specs.Places.{Doing, blocked, blocked_at, lacked_at, place_of, stop_of}
+use Rattle.line_steps.specs.declared.place.Place.{Place}
+use Rattle.line_steps.specs.declared.stop.Stop.{Stop}
+use Rattle.reading.specs.Opening.{Checks, opened_at}
+use Rattle.reading.specs.Readings.{Denied, kept_after, resumes_in, verdict_of, word_of}
+use Rattle.reading.specs.Resuming.{Going, lines_after, may_continue, staged_refused}
 use Rattle.reading.specs.Stages.{lines_do, paired, paused_after, rewritten_does}
-use Rattle.reading.specs.Starting.{Start, start_line}
+use Rattle.reading.specs.Starting.{Planned, start_line}
 use Rattle.reading.specs.Tapes.{Again, Begins, Child, Continue, Goes as Resumes, Moment, Skip, Turn, calls, nothing}
 use Rattle.reading.specs.Todos.{first_bad, kept_lines, numbers}
-use Rattle.reading.specs.Writing.{conflicted_with, switched_with}
+use Rattle.line_steps.specs.Writing.{conflicted_with, switched_with}
 
 -- ---- small things
 
@@ -203,9 +210,9 @@ InTheWay w = first_obstructed w found.index with_n ≡ Some (codes "n")
     × ((blocked_at (id_of 34) (reason.WouldOverwrite (codes "n"))).put_back ≡ true)
 
 -- A merge driver that exits with 130 is broken: the line is put back, and nothing is changed.
-abbrev pub DriverBreaks : Layers → Setting → World → Type 0
-DriverBreaks layers setting w =
-    (merged_does layers setting (options empty.Stop) picking (sides []) (Broken (codes "a") (Code 130) false) (spot w) nothing
+abbrev pub DriverBreaks : Setting → World → Type 0
+DriverBreaks setting w =
+    (merged_does makers setting (options empty.Stop) picking (sides []) (Broken (codes "a") (Code 130) false) (spot w) nothing
     ≡ ended_with (Stops (at_broken picked (codes "a") (Code 130) false)) (spot w) nothing)
     × ((at_broken picked (codes "a") (Code 130) false).put_back ≡ true)
 
@@ -229,9 +236,9 @@ abbrev pub noops : List Line
 noops = Noop ∷ Break ∷ Noop ∷ []
 
 -- A list of lines is read until one stops, which is done unless it is put back.
-abbrev pub ReadsUntil : Layers → Setting → World → Type 0
-ReadsUntil layers setting w = head_found w ≡ Ok (id_of 33)
-    → (lines_do layers setting control noops 0 (spot w) nothing).end ≡ Stops (record { stop = stop_of kind.Break; done = 2 })
+abbrev pub ReadsUntil : Setting → World → Type 0
+ReadsUntil setting w = head_found w ≡ Ok (id_of 33)
+    → (lines_do setting control noops 0 (spot w) nothing).end ≡ Stops (record { stop = stop_of kind.Break; done = 2 })
 
 -- Where it stops, the lines before are done, and the others are left.
 abbrev pub KeepsLines : Type 0
@@ -263,10 +270,10 @@ abbrev pub going_at : Setting → Id → Going
 going_at setting head = record { setting = setting; left = []; head = head; index = [] }
 
 -- HEAD has moved past the commit that is pending: the user made it, and its line's commit waits to be paired.
-abbrev pub MadeByUser : Layers → Setting → World → Type 0
-MadeByUser layers setting w =
+abbrev pub MadeByUser : Setting → World → Type 0
+MadeByUser setting w =
     (staged_refused true (id_of 50) control.pending None ≡ Ok tt)
-    × ((continue_does layers (going_at setting (id_of 50)) control control.pending (spot w) nothing).spot.place.waiting ≡ id_of 34 ∷ [])
+    × ((continue_does (going_at setting (id_of 50)) control control.pending (spot w) nothing).spot.place.waiting ≡ id_of 34 ∷ [])
 
 -- A conflict that is resolved to nothing goes, is made, or stops, as the option says.
 abbrev pub resolved : Empty → Doing (Unit {0})
@@ -326,13 +333,11 @@ CountsLines w =
     × (kept_lines control [] (Ok []) ≡ Err (Refused refusal.NothingToDo))
 
 -- HEAD's log tells of a start where HEAD went, and by which word.
-abbrev pub starting : World → Start
-starting w = record { world = w; control = control; onto_word = codes "main" }
+abbrev pub plan : Planned
+plan = record { control = control; onto_word = codes "main" }
 
-abbrev pub StartIsTold : Setting → World → Type 0
-StartIsTold setting w =
-    ((start_line setting (starting w)).message ≡ codes "rebase (start): checkout main")
-    × ((start_line setting (starting w)).new ≡ id_of 33)
+abbrev pub StartIsTold : Setting → Type 0
+StartIsTold setting = ((start_line setting plan).message ≡ codes "rebase (start): checkout main") × ((start_line setting plan).new ≡ id_of 33)
 
 -- A rebase that is given up goes back to its branch, or to where HEAD was detached, and tells so.
 abbrev pub topic : Name
@@ -345,5 +350,5 @@ GivesUp =
     × (head_before None (id_of 17) ≡ Detached (id_of 17))
 
 -- A turn that finds no repository, say, is denied, whatever it is to go on with.
-abbrev pub IsDenied : Layers → Turn → Again → Control → Denial → Type 0
-IsDenied layers turn again k denial = layers.opens turn.world ≡ Err denial → verdict_of (resumes layers again turn k turn.world) ≡ Denied denial
+abbrev pub IsDenied : Checks → Turn → Again → Control → Denial → Type 0
+IsDenied checks turn again k denial = opened_at checks turn.world ≡ Err denial → verdict_of (resumes_in checks again turn k) ≡ Denied denial

@@ -4,11 +4,8 @@ use Rattle.seq_base.specs.World.{World}
 use Rattle.seq_outside.specs.Tape.{Coming, Ended, SawChild, SawDrivers, SawMoment, all_ended, ended_of}
 use Rattle.seq_outside.specs.Tape.{Event as Seen}
 use Rattle.seq_outside.specs.declared.env.Env.{Env}
-
--- how a stopped list is gone on with
-pub data Again : Type 0 where
-  Continue : Again
-  Skip : Again
+pub use Rattle.reading.specs.declared.again.Again.{Again}
+pub use Rattle.reading.specs.declared.again.Again.TheVariants.{Continue, Skip}
 
 -- what an invocation does with a list
 pub data Action : Type 0 where

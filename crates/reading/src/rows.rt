@@ -2,7 +2,8 @@
 
 ghost use Rattle.seq_base.specs.World.{World};
 ghost use Rattle.seq_outside.specs.declared.env.Env.{Env};
-ghost use Rattle.reading.specs.Layers.{Layers, Setting};
+ghost use Rattle.line_steps.specs.declared.setting.Setting.{Setting};
+ghost use Rattle.reading.specs.Opening.{Checks};
 ghost use Rattle.reading.specs.Rows.{BecomesEmpty, Breaks, Conflicts, DriverBreaks, ExecFails, ExecLeavesDirt, Forwards, HookRuns, InTheWay};
 ghost use Rattle.reading.specs.Rows.{BelowAnother, BranchMoved, FailedWords, KeepsLines, NothingRewritten, Pairs, ReadsUntil, TodoIsBad};
 ghost use Rattle.reading.specs.Rows.{CountsLines, GivesUp, IsDenied, KeepsFiles, StartIsTold};
@@ -17,7 +18,7 @@ pub fn small_lines()
     ensures forwards { Forwards }
     ensures conflicts { (w v : World) → Conflicts w v }
     ensures in_the_way { (w : World) → InTheWay w }
-    ensures driver_breaks { (layers : Layers) → (setting : Setting) → (w : World) → DriverBreaks layers setting w }
+    ensures driver_breaks { (setting : Setting) → (w : World) → DriverBreaks setting w }
     ensures becomes_empty { (w : World) → BecomesEmpty w }
     ensures exec_fails { (w : World) → ExecFails w }
     ensures exec_leaves_dirt { (w : World) → ExecLeavesDirt w }
@@ -26,7 +27,7 @@ pub fn small_lines()
 
 /// What a list of lines comes to, and its end.
 pub fn small_list()
-    ensures reads_until { (layers : Layers) → (setting : Setting) → (w : World) → ReadsUntil layers setting w }
+    ensures reads_until { (setting : Setting) → (w : World) → ReadsUntil setting w }
     ensures keeps_lines { KeepsLines }
     ensures failed_words { FailedWords }
     ensures todo_is_bad { (w : World) → TodoIsBad w }
@@ -42,7 +43,7 @@ pub fn small_turns()
     ensures turns_apart { (env : Env) → (w : World) → TurnsApart env w }
     ensures unresolved { (w : World) → Unresolved w }
     ensures staged_past { StagedPast }
-    ensures made_by_user { (layers : Layers) → (setting : Setting) → (w : World) → MadeByUser layers setting w }
+    ensures made_by_user { (setting : Setting) → (w : World) → MadeByUser setting w }
     ensures resolved_to_nothing { (w : World) → ResolvedToNothing w }
     ensures takes_out { TakesOut }
 {}
@@ -51,7 +52,7 @@ pub fn small_turns()
 pub fn small_files()
     ensures keeps_files { KeepsFiles }
     ensures counts_lines { (w : World) → CountsLines w }
-    ensures start_is_told { (setting : Setting) → (w : World) → StartIsTold setting w }
+    ensures start_is_told { (setting : Setting) → StartIsTold setting }
     ensures gives_up { GivesUp }
-    ensures is_denied { (layers : Layers) → (turn : Turn) → (again : Again) → (k : Control) → (why : Denial) → IsDenied layers turn again k why }
+    ensures is_denied { (checks : Checks) → (turn : Turn) → (again : Again) → (k : Control) → (why : Denial) → IsDenied checks turn again k why }
 {}

@@ -6,6 +6,6 @@ use Rattle.reading.proofs.laws.turn_leaves_it_there.Goals as goal
 
 pub returns : goal.returns
 returns g c = λ again turn seen o new start tape stands turned.
-    let before = (meaning g.layers start tape).ending in
-    let after = meaning g.layers start (tape ++ this_call turn seen) in
-    stands_on g.layers seen before (judged g.layers again turn before) after o turn.world new stands turned
+    let before = (meaning g.checks start tape).ending in
+    let after = meaning g.checks start (tape ++ this_call turn seen) in
+    stands_on seen before (judged g.checks again turn before) after o turn.world new stands turned
