@@ -6,3 +6,4 @@ pub mod Halting
 pub mod Hooking
 pub mod Backs
 pub mod Causing
+pub mod Indexes

@@ -1,5 +1,5 @@
 -- Which stops a child that could not be run has made.
-use Rattle.std.specs.Prelude.{◌≡◌, Bool, false, Result, Ok, Err}
+use Rattle.std.specs.Prelude.{◌≡◌, Bool, false, None, Result, Ok, Err}
 use Rattle.child_steps.specs.Causes.{HasStepCause}
 use Rattle.seq_outside.specs.Child.{Spawns}
 use Rattle.seq_outside.specs.Seen.{Seen}
@@ -11,10 +11,10 @@ use Rattle.line_steps.specs.declared.stop.Stop.{Stop}
 abbrev pub stop_failed : Stop → Bool
 stop_failed stop = stop.failed
 
--- of a step that runs no child
+-- of a step that runs no child: what it stops with is its own, and no commit is pending
 abbrev pub RunsNone : {X : Type 0} → Result X (Halt Stop) → Type 0
 RunsNone (Ok x) = Unit {0}
-RunsNone (Err (Stops stop)) = stop.failed ≡ false
+RunsNone (Err (Stops stop)) = (stop.failed ≡ false) × (stop.pending ≡ None)
 RunsNone (Err Fault) = Unit {0}
 RunsNone (Err Memory) = Unit {0}
 

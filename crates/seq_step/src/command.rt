@@ -13,6 +13,7 @@ ghost use Rattle.seq_outside.specs.Follows.{Follows};
 ghost use Rattle.seq_outside.specs.Halts.{Gives, for_reason, halt_cause};
 ghost use Rattle.seq_outside.specs.Seen.{Reads};
 ghost use Rattle.seq_step.specs.Causes.{RunsNone, stop_failed};
+ghost use Rattle.seq_step.specs.Keeping.{Keeps};
 
 use crate::clean::stop_unclean;
 use crate::head::head_or_blocked;
@@ -81,6 +82,7 @@ fn take_head<S: Store, P: Spawner<S>, C: Clock>(
     ensures follows { S.told → Follows P.ran C.ticked spawner.old clock.old spawner.new clock.new (λ x. x)
         (exec_takes head) (spot_of (S.seen store.old) place.old) result (spot_of (S.seen store.new) place.new) }
     ensures cause { HasStepCause S.told stop_failed result (S.seen store.old) (S.seen store.new) (P.seen spawner.old) (P.seen spawner.new) }
+    ensures keeps { Keeps place.old result place.new }
 {
     stop_left(alloc, head, store)?;
     place.head = head;
@@ -99,6 +101,7 @@ fn look<S: Store, P: Spawner<S>, C: Clock>(
     ensures follows { S.told → Follows P.ran C.ticked spawner.old clock.old spawner.new clock.new (λ x. x)
         exec_looks (spot_of (S.seen store.old) place.old) result (spot_of (S.seen store.new) place.new) }
     ensures cause { HasStepCause S.told stop_failed result (S.seen store.old) (S.seen store.new) (P.seen spawner.old) (P.seen spawner.new) }
+    ensures keeps { Keeps place.old result place.new }
 {
     let head = head_or_blocked(alloc, store)?;
     take_head(alloc, head, place, store, spawner, clock)
@@ -117,6 +120,7 @@ fn run_command<S: Store, P: Spawner<S>, C: Clock>(
         (job_does (exec_of command.now)) (spot_of (S.seen store.old) place.old) result (spot_of (S.seen store.new) place.new) }
     ensures cause { HasStepCause S.told stop_failed result (S.seen store.old) (S.seen store.new) (P.seen spawner.old) (P.seen spawner.new) }
     ensures failed { IfOk result (λ end. end.failed ≡ true → Rose (P.seen spawner.old).faults (P.seen spawner.new).faults) }
+    ensures keeps { Keeps place.old result place.new }
 {
     let job = exec_job(alloc, command)?;
     run_job(alloc, &job, place, store, spawner, clock)
@@ -137,6 +141,7 @@ pub fn exec<S: Store, P: Spawner<S>, C: Clock>(
     ensures follows { S.told → Follows P.ran C.ticked spawner.old clock.old spawner.new clock.new (λ x. x)
         (exec_does again command.now) (spot_of (S.seen store.old) place.old) result (spot_of (S.seen store.new) place.new) }
     ensures cause { HasStepCause S.told stop_failed result (S.seen store.old) (S.seen store.new) (P.seen spawner.old) (P.seen spawner.new) }
+    ensures keeps { Keeps place.old result place.new }
 {
     let child = run_command(alloc, command, place, store, spawner, clock)?;
     if !is_good(child.exit) {

@@ -6,7 +6,8 @@ ghost use Rattle.child_steps.specs.Children.{spot_of};
 ghost use Rattle.commit_maker.specs.Causes.{stop_failed as make_failed};
 ghost use Rattle.commit_maker.specs.Commits.{CanBeMade, IsMade};
 ghost use Rattle.line_steps.specs.Making.{commits_by};
-ghost use Rattle.line_steps.specs.Picks.{at_unmade as at_unmade_of, commit_does, hook_waits, made_does, made_heads, made_line, making_of as making_of_pick, or_back};
+ghost use Rattle.line_steps.specs.Picks.{at_unmade as at_unmade_of, commit_does, hook_waits, made_does};
+ghost use Rattle.line_steps.specs.Picks.{made_heads, made_line, making_of as making_of_pick, or_back};
 ghost use Rattle.line_steps.specs.Picks.{tree_does, unseen_within};
 ghost use Rattle.line_steps.specs.Places.{blocked_at, writes};
 ghost use Rattle.line_steps.specs.Writing.{back_from, head_moved};
@@ -14,6 +15,7 @@ ghost use Rattle.seq_outside.specs.Doing.{saying};
 ghost use Rattle.seq_outside.specs.Follows.{Follows};
 ghost use Rattle.seq_step.specs.Causes.{stop_failed};
 ghost use Rattle.seq_step.specs.Finding.{IsPicked, IsPicking, picked_is, picking_is};
+ghost use Rattle.seq_step.specs.Keeping.{HasSameLists, Keeps};
 ghost use Rattle.seq_step.specs.Settings.{MayCommit};
 
 use crate::back::go_back_if;
@@ -51,7 +53,7 @@ fn making_of(alloc: Global, edit: bool, at: &Picking, tree: Id) -> Result<Making
 }
 
 /// A commit is made beside what has run before.
-fn make_beside<S: Store, P: Spawner<S>, C: Clock>(
+pub fn make_beside<S: Store, P: Spawner<S>, C: Clock>(
     alloc: Global,
     setting: &Setting,
     making: &Making,
@@ -66,6 +68,7 @@ fn make_beside<S: Store, P: Spawner<S>, C: Clock>(
         (unseen_within (commits_by setting.now making.now)) (spot_of (S.seen store.old) place.old) result (spot_of (S.seen store.new) place.new) }
     ensures told { IfOk result IsMade }
     ensures cause { HasStepCause S.told make_failed result (S.seen store.old) (S.seen store.new) (P.seen spawner.old) (P.seen spawner.new) }
+    ensures keeps { HasSameLists place.old place.new }
 {
     make(
         alloc,
@@ -93,12 +96,14 @@ fn make_or_stop<S: Store, P: Spawner<S>, C: Clock>(
     clock: &mut C,
 ) -> Result<Made, Halt<Stop>>
     requires setting { MayCommit setting.now }
+    requires pick { IsPicked pick.now }
     requires making { CanBeMade making.now }
     ensures follows { S.told → Follows P.ran C.ticked spawner.old clock.old spawner.new clock.new (λ made. made)
         (saying (at_unmade_of edit (picked_is pick.now)) (unseen_within (commits_by setting.now making.now)))
         (spot_of (S.seen store.old) place.old) result (spot_of (S.seen store.new) place.new) }
     ensures told { IfOk result IsMade }
     ensures cause { HasStepCause S.told stop_failed result (S.seen store.old) (S.seen store.new) (P.seen spawner.old) (P.seen spawner.new) }
+    ensures keeps { Keeps place.old result place.new }
 {
     match make_beside(alloc, setting, making, place, store, spawner, clock) {
         Ok(made) => Ok(made),
@@ -123,10 +128,12 @@ fn make_commit<S: Store, P: Spawner<S>, C: Clock>(
     requires setting { MayCommit setting.now }
     requires at { IsPicking at.now }
     ensures follows { S.told → Follows P.ran C.ticked spawner.old clock.old spawner.new clock.new (λ made. made)
-        (saying (at_unmade_of edit (picked_is at.now.pick)) (unseen_within (commits_by setting.now (making_of_pick edit at.now.head (picked_is at.now.pick) tree))))
+        (saying (at_unmade_of edit (picked_is at.now.pick))
+        (unseen_within (commits_by setting.now (making_of_pick edit at.now.head (picked_is at.now.pick) tree))))
         (spot_of (S.seen store.old) place.old) result (spot_of (S.seen store.new) place.new) }
     ensures told { IfOk result IsMade }
     ensures cause { HasStepCause S.told stop_failed result (S.seen store.old) (S.seen store.new) (P.seen spawner.old) (P.seen spawner.new) }
+    ensures keeps { Keeps place.old result place.new }
 {
     let making = making_of(alloc, edit, at, tree)?;
     make_or_stop(
@@ -147,6 +154,7 @@ fn run_post_commit<S: Store, P: Spawner<S>, C: Clock>(
     ensures follows { S.told → Follows P.ran C.ticked spawner.old clock.old spawner.new clock.new (λ x. x)
         (hook_waits id) (spot_of (S.seen store.old) place.old) result (spot_of (S.seen store.new) place.new) }
     ensures cause { HasStepCause S.told stop_failed result (S.seen store.old) (S.seen store.new) (P.seen spawner.old) (P.seen spawner.new) }
+    ensures keeps { Keeps place.old result place.new }
 {
     let arguments = Vec::new(alloc);
     run_hook(
@@ -176,6 +184,7 @@ fn take_made<S: Store, P: Spawner<S>, C: Clock>(
     ensures follows { S.told → Follows P.ran C.ticked spawner.old clock.old spawner.new clock.new (λ x. x)
         (made_heads id pick) (spot_of (S.seen store.old) place.old) result (spot_of (S.seen store.new) place.new) }
     ensures cause { HasStepCause S.told stop_failed result (S.seen store.old) (S.seen store.new) (P.seen spawner.old) (P.seen spawner.new) }
+    ensures keeps { Keeps place.old result place.new }
 {
     place.head = id;
     run_post_commit(alloc, pick, place, store, spawner, clock)
@@ -196,6 +205,7 @@ fn move_made<S: Store, P: Spawner<S>, C: Clock>(
         (writes (blocked_at at.now.pick.id) (head_moved at.now.head made.now.id (made_line (picking_is at.now) made.now)))
         (spot_of (S.seen store.old) place.old) result (spot_of (S.seen store.new) place.new) }
     ensures cause { HasStepCause S.told stop_failed result (S.seen store.old) (S.seen store.new) (P.seen spawner.old) (P.seen spawner.new) }
+    ensures keeps { Keeps place.old result place.new }
 {
     let line = pick_line(
         alloc,
@@ -224,6 +234,7 @@ fn go_to_made<S: Store, P: Spawner<S>, C: Clock>(
     ensures follows { S.told → Follows P.ran C.ticked spawner.old clock.old spawner.new clock.new (λ x. x)
         (made_does (picking_is at.now) made.now) (spot_of (S.seen store.old) place.old) result (spot_of (S.seen store.new) place.new) }
     ensures cause { HasStepCause S.told stop_failed result (S.seen store.old) (S.seen store.new) (P.seen spawner.old) (P.seen spawner.new) }
+    ensures keeps { Keeps place.old result place.new }
 {
     move_made(alloc, at, made, place, store, spawner, clock)?;
     take_made(alloc, made.id, at.pick.id, place, store, spawner, clock)
@@ -248,6 +259,7 @@ fn commit_tree<S: Store, P: Spawner<S>, C: Clock>(
         (tree_does commits_by setting.now edit (picking_is at.now) tree)
         (spot_of (S.seen store.old) place.old) result (spot_of (S.seen store.new) place.new) }
     ensures cause { HasStepCause S.told stop_failed result (S.seen store.old) (S.seen store.new) (P.seen spawner.old) (P.seen spawner.new) }
+    ensures keeps { Keeps place.old result place.new }
 {
     let made = make_commit(alloc, setting, edit, at, tree, place, store, spawner, clock)?;
     go_to_made(alloc, at, &made, place, store, spawner, clock)
@@ -273,6 +285,7 @@ fn commit_or_back<S: Store, P: Spawner<S>, C: Clock>(
         (or_back (back_from map.now at.now.found.ours) (tree_does commits_by setting.now edit (picking_is at.now) tree))
         (spot_of (S.seen store.old) place.old) result (spot_of (S.seen store.new) place.new) }
     ensures cause { HasStepCause S.told stop_failed result (S.seen store.old) (S.seen store.new) (P.seen spawner.old) (P.seen spawner.new) }
+    ensures keeps { Keeps place.old result place.new }
 {
     match commit_tree(alloc, setting, edit, at, tree, place, store, spawner, clock) {
         Ok(()) => Ok(()),
@@ -309,6 +322,7 @@ pub fn commit<S: Store, P: Spawner<S>, C: Clock>(
         (commit_does commits_by setting.now edit (picking_is at.now) map.now texts.now)
         (spot_of (S.seen store.old) place.old) result (spot_of (S.seen store.new) place.new) }
     ensures cause { HasStepCause S.told stop_failed result (S.seen store.old) (S.seen store.new) (P.seen spawner.old) (P.seen spawner.new) }
+    ensures keeps { Keeps place.old result place.new }
 {
     let tree = switch_merged(
         alloc, at.pick.id, &at.found, map, texts, place, store, spawner, clock,

@@ -16,6 +16,7 @@ ghost use Rattle.seq_step.specs.Causes.{RunsNone, stop_failed};
 ghost use Rattle.seq_step.specs.Finding.{IsPicking, picking_is};
 ghost use Rattle.worktree.specs.ConflictTurns.{conflicted_clear};
 ghost use Rattle.worktree.specs.Conflicts.{unbarred};
+ghost use Rattle.seq_step.specs.Keeping.{Keeps};
 
 use crate::finding::{Found, Picking, may_have};
 use crate::pending::stop_pending;
@@ -78,7 +79,8 @@ fn write_left<S: Store>(
 ) -> Result<(), Halt<Lack>>
     requires order { IsInOrder found.now.index.items }
     requires index { IsIndex index.now }
-    ensures turns { S.told → Turns (λ x. x) result (conflicted_clear found.now.index.items index.now files.now (S.seen store.old).content) (S.seen store.new).content }
+    ensures turns { S.told → Turns (λ x. x) result (conflicted_clear found.now.index.items index.now files.now (S.seen store.old).content)
+        (S.seen store.new).content }
     ensures writes { Writes S.told halt_cause result (S.seen store.old) (S.seen store.new) }
 {
     write_conflict_clear(
@@ -101,7 +103,8 @@ fn fill_conflict<S: Store>(
 ) -> Result<(), Halt<Lack>>
     requires order { IsInOrder found.now.index.items }
     requires index { IsIndex index.now }
-    ensures turns { S.told → Turns (λ x. x) result (conflicted_filled found.now.index.items index.now files.now texts.now (S.seen store.old).content)
+    ensures turns { S.told → Turns (λ x. x) result
+        (conflicted_filled found.now.index.items index.now files.now texts.now (S.seen store.old).content)
         (S.seen store.new).content }
     ensures writes { Writes S.told halt_cause result (S.seen store.old) (S.seen store.new) }
 {
@@ -148,6 +151,7 @@ fn conflict_step<S: Store, P: Spawner<S>, C: Clock>(
         (spot_of (S.seen store.old) place.old) result (spot_of (S.seen store.new) place.new) }
     ensures none { RunsNone result }
     ensures cause { HasStepCause S.told stop_failed result (S.seen store.old) (S.seen store.new) (P.seen spawner.old) (P.seen spawner.new) }
+    ensures keeps { Keeps place.old result place.new }
 {
     match leave_conflict(alloc, found, index, files, texts, store) {
         Ok(()) => Ok(()),
@@ -176,6 +180,7 @@ pub fn conflict<S: Store, P: Spawner<S>, C: Clock>(
         (conflict_does (picking_is at.now) index.now files.now texts.now)
         (spot_of (S.seen store.old) place.old) result (spot_of (S.seen store.new) place.new) }
     ensures cause { HasStepCause S.told stop_failed result (S.seen store.old) (S.seen store.new) (P.seen spawner.old) (P.seen spawner.new) }
+    ensures keeps { Keeps place.old result place.new }
 {
     conflict_step(
         alloc, at.pick.id, &at.found, index, files, texts, place, store, spawner, clock,

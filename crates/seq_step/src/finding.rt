@@ -1,6 +1,7 @@
 //! What a pick finds.
 
 ghost use Rattle.std.specs.Prelude.{◌≡◌, ◌<◌, ◌^◌, IfOk, IsErrOf, OnOk, length};
+ghost use Rattle.index_file.specs.Entries.{IsIndex};
 ghost use Rattle.line_steps.specs.Finding.{base_at as base_of, bad_name as bad_name_of, found_at as found_of};
 ghost use Rattle.line_steps.specs.Finding.{may_have as may_have_of, only_parent as only_parent_of, ours_at as ours_of};
 ghost use Rattle.line_steps.specs.Finding.{picked_as, picked_at as picked_of, sides_at as sides_of, theirs_at as theirs_of, found_on};
@@ -194,6 +195,7 @@ fn head_commit<S: Store>(alloc: Global, id: Id, store: &mut S) -> Result<Commit,
 fn found_by<S: Store>(alloc: Global, commit: Commit, store: &mut S) -> Result<Found, Halt<Reason>>
     ensures gives { S.told → Gives found_is result (found_on commit (S.seen store.old).content) }
     ensures found { IfOk result IsFound }
+    ensures index { IfOk result (λ found. IsIndex found.index.items) }
     ensures reads { Reads S.told halt_cause result (S.seen store.old) (S.seen store.new) }
 {
     let ours = ours(alloc, commit.tree, store)?;
@@ -211,6 +213,7 @@ fn found_by<S: Store>(alloc: Global, commit: Commit, store: &mut S) -> Result<Fo
 pub fn found_in<S: Store>(alloc: Global, head: Id, store: &mut S) -> Result<Found, Halt<Reason>>
     ensures gives { S.told → Gives found_is result (found_of head (S.seen store.old).content) }
     ensures found { IfOk result IsFound }
+    ensures index { IfOk result (λ found. IsIndex found.index.items) }
     ensures reads { Reads S.told halt_cause result (S.seen store.old) (S.seen store.new) }
 {
     let commit = head_commit(alloc, head, store)?;

@@ -3,12 +3,14 @@
 ghost use Rattle.std.specs.Prelude.{◌≡◌, ◌∷◌, ◌++◌, [], IfOk};
 ghost use Rattle.child_steps.specs.Causes.{HasStepCause};
 ghost use Rattle.child_steps.specs.Children.{spot_of};
-ghost use Rattle.line_steps.specs.Picks.{forward_does, forward_goes, forward_heads, forward_line as forward_line_of, forward_moved, forward_or_back, forward_to, waits};
+ghost use Rattle.line_steps.specs.Picks.{forward_does, forward_goes, forward_heads, forward_line as forward_line_of};
+ghost use Rattle.line_steps.specs.Picks.{forward_moved, forward_or_back, forward_to, waits};
 ghost use Rattle.message_text.specs.Paragraphs.{subject as subject_in};
 ghost use Rattle.ref_text.specs.Logs.{IsLogValue, IsMessage};
 ghost use Rattle.seq_outside.specs.Follows.{Follows};
 ghost use Rattle.seq_step.specs.Causes.{stop_failed};
 ghost use Rattle.seq_step.specs.Finding.{IsPicking, picking_is};
+ghost use Rattle.seq_step.specs.Keeping.{Keeps};
 ghost use Rattle.seq_step.specs.Settings.{MayCommit};
 
 use crate::back::go_back_if;
@@ -23,7 +25,8 @@ use seq_outside::{Clock, Halt, Spawner, Store};
 use state_text::Ids;
 use std::alloc::{AllocError, Global};
 
-fn with_id(alloc: Global, ids: &Ids, id: Id) -> Result<Ids, AllocError>
+/// The ids, and one more.
+pub fn with_id(alloc: Global, ids: &Ids, id: Id) -> Result<Ids, AllocError>
     ensures { IfOk result (λ more. more ≡ ids.now ++ id ∷ []) }
 {
     let mut more = Vec::from_slice(alloc, ids.as_slice())?;
@@ -43,6 +46,7 @@ pub fn wait<S: Store, P: Spawner<S>, C: Clock>(
     ensures follows { S.told → Follows P.ran C.ticked spawner.old clock.old spawner.new clock.new (λ x. x)
         (waits id) (spot_of (S.seen store.old) place.old) result (spot_of (S.seen store.new) place.new) }
     ensures cause { HasStepCause S.told stop_failed result (S.seen store.old) (S.seen store.new) (P.seen spawner.old) (P.seen spawner.new) }
+    ensures keeps { Keeps place.old result place.new }
 {
     place.waiting = with_id(alloc, &place.waiting, id)?;
     Ok(())
@@ -61,6 +65,7 @@ fn take_head<S: Store, P: Spawner<S>, C: Clock>(
     ensures follows { S.told → Follows P.ran C.ticked spawner.old clock.old spawner.new clock.new (λ x. x)
         (forward_heads id) (spot_of (S.seen store.old) place.old) result (spot_of (S.seen store.new) place.new) }
     ensures cause { HasStepCause S.told stop_failed result (S.seen store.old) (S.seen store.new) (P.seen spawner.old) (P.seen spawner.new) }
+    ensures keeps { Keeps place.old result place.new }
 {
     place.head = id;
     wait(alloc, id, place, store, spawner, clock)
@@ -100,6 +105,7 @@ fn move_forward<S: Store, P: Spawner<S>, C: Clock>(
     ensures follows { S.told → Follows P.ran C.ticked spawner.old clock.old spawner.new clock.new (λ x. x)
         (forward_moved setting.now (picking_is at.now)) (spot_of (S.seen store.old) place.old) result (spot_of (S.seen store.new) place.new) }
     ensures cause { HasStepCause S.told stop_failed result (S.seen store.old) (S.seen store.new) (P.seen spawner.old) (P.seen spawner.new) }
+    ensures keeps { Keeps place.old result place.new }
 {
     let line = forward_line(alloc, setting, at)?;
     move_head(
@@ -125,6 +131,7 @@ fn move_or_back<S: Store, P: Spawner<S>, C: Clock>(
         (forward_or_back setting.now (picking_is at.now) theirs.now)
         (spot_of (S.seen store.old) place.old) result (spot_of (S.seen store.new) place.new) }
     ensures cause { HasStepCause S.told stop_failed result (S.seen store.old) (S.seen store.new) (P.seen spawner.old) (P.seen spawner.new) }
+    ensures keeps { Keeps place.old result place.new }
 {
     match move_forward(alloc, setting, at, place, store, spawner, clock) {
         Ok(()) => Ok(()),
@@ -158,6 +165,7 @@ fn go_forward<S: Store, P: Spawner<S>, C: Clock>(
         (forward_goes setting.now (picking_is at.now) theirs.now)
         (spot_of (S.seen store.old) place.old) result (spot_of (S.seen store.new) place.new) }
     ensures cause { HasStepCause S.told stop_failed result (S.seen store.old) (S.seen store.new) (P.seen spawner.old) (P.seen spawner.new) }
+    ensures keeps { Keeps place.old result place.new }
 {
     move_or_back(alloc, setting, at, theirs, place, store, spawner, clock)?;
     take_head(alloc, at.pick.id, place, store, spawner, clock)
@@ -181,6 +189,7 @@ fn go_to<S: Store, P: Spawner<S>, C: Clock>(
         (forward_to setting.now (picking_is at.now) theirs.now)
         (spot_of (S.seen store.old) place.old) result (spot_of (S.seen store.new) place.new) }
     ensures cause { HasStepCause S.told stop_failed result (S.seen store.old) (S.seen store.new) (P.seen spawner.old) (P.seen spawner.new) }
+    ensures keeps { Keeps place.old result place.new }
 {
     switch_step(
         alloc, at.pick.id, &at.found, theirs, place, store, spawner, clock,
@@ -204,6 +213,7 @@ pub fn forward<S: Store, P: Spawner<S>, C: Clock>(
     ensures follows { S.told → Follows P.ran C.ticked spawner.old clock.old spawner.new clock.new (λ x. x)
         (forward_does setting.now (picking_is at.now)) (spot_of (S.seen store.old) place.old) result (spot_of (S.seen store.new) place.new) }
     ensures cause { HasStepCause S.told stop_failed result (S.seen store.old) (S.seen store.new) (P.seen spawner.old) (P.seen spawner.new) }
+    ensures keeps { Keeps place.old result place.new }
 {
     let theirs = theirs(alloc, &at.pick, store)?;
     go_to(alloc, setting, at, &theirs, place, store, spawner, clock)

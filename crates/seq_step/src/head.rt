@@ -1,7 +1,7 @@
 //! HEAD's commit, and the index, as a line finds them.
 
 ghost use Rattle.std.specs.Prelude.{◌≡◌, IfOk, IsErrOf};
-ghost use Rattle.index_file.specs.Entries.{IsInOrder};
+ghost use Rattle.index_file.specs.Entries.{IsInOrder, IsIndex};
 ghost use Rattle.index_file.specs.Index.{index_at};
 ghost use Rattle.index_file.specs.Reading.{index_of};
 ghost use Rattle.line_steps.specs.Heads.{bad_head as bad_head_of, head_found as head_found_at};
@@ -76,6 +76,7 @@ pub fn head_or_blocked<S: Store>(alloc: Global, store: &mut S) -> Result<Id, Hal
 fn entries_in(alloc: Global, text: &[u8]) -> Result<Vec<IndexEntry>, Halt<Reason>>
     ensures gives { Gives (λ v. v.items) result (or_bad_index (index_of text.now)) }
     ensures order { IfOk result (λ v. IsInOrder v.items) }
+    ensures index { IfOk result (λ v. IsIndex v.items) }
     ensures no_fault { IsErrOf result Halt.Fault → ⊥ }
 {
     match parse_index(alloc, text) {
@@ -86,9 +87,11 @@ fn entries_in(alloc: Global, text: &[u8]) -> Result<Vec<IndexEntry>, Halt<Reason
 }
 
 /// The entries of the index file, of which a missing one has none.
+#[tactic(auto, using(crate::proofs::Indexes::empty_index))]
 fn entries_of<S: Store>(alloc: Global, store: &mut S) -> Result<Vec<IndexEntry>, Halt<Reason>>
     ensures gives { S.told → Gives (λ v. v.items) result (or_bad_index (index_at (S.seen store.old).content)) }
     ensures order { IfOk result (λ v. IsInOrder v.items) }
+    ensures index { IfOk result (λ v. IsIndex v.items) }
     ensures reads { Reads S.told halt_cause result (S.seen store.old) (S.seen store.new) }
 {
     match store.get(alloc, b".git/index")? {
@@ -102,6 +105,7 @@ fn entries_of<S: Store>(alloc: Global, store: &mut S) -> Result<Vec<IndexEntry>,
 pub fn index_found<S: Store>(alloc: Global, store: &mut S) -> Result<Vec<IndexEntry>, Halt<Reason>>
     ensures gives { S.told → Gives (λ v. v.items) result (index_found_at (S.seen store.old).content) }
     ensures order { IfOk result (λ v. IsInOrder v.items) }
+    ensures index { IfOk result (λ v. IsIndex v.items) }
     ensures reads { Reads S.told halt_cause result (S.seen store.old) (S.seen store.new) }
 {
     let entries = entries_of(alloc, store)?;

@@ -11,6 +11,7 @@ ghost use Rattle.seq_outside.specs.Follows.{Follows};
 ghost use Rattle.seq_outside.specs.Halts.{Gives, halt_cause};
 ghost use Rattle.seq_outside.specs.Seen.{Reads};
 ghost use Rattle.seq_step.specs.Causes.{RunsNone, stop_failed};
+ghost use Rattle.seq_step.specs.Keeping.{Keeps};
 
 use child_jobs::hook_job;
 use child_steps::ChildEnd;
@@ -34,6 +35,7 @@ pub fn run_job<S: Store, P: Spawner<S>, C: Clock>(
     ensures cause { HasStepCause S.told stop_failed result (S.seen store.old) (S.seen store.new) (P.seen spawner.old) (P.seen spawner.new) }
     ensures failed { IfOk result (λ end. end.failed ≡ true → Rose (P.seen spawner.old).faults (P.seen spawner.new).faults) }
     ensures never_stops { NeverStops result }
+    ensures keeps { Keeps place.old result place.new }
 {
     match spawner.run(alloc, store, job) {
         Ok(exit) => Ok(ChildEnd {
@@ -85,6 +87,7 @@ fn end_hook<S: Store, P: Spawner<S>, C: Clock>(
     ensures follows { S.told → Follows P.ran C.ticked spawner.old clock.old spawner.new clock.new (λ x. x)
         (hook_ends job.now) (spot_of (S.seen store.old) place.old) result (spot_of (S.seen store.new) place.new) }
     ensures cause { HasStepCause S.told stop_failed result (S.seen store.old) (S.seen store.new) (P.seen spawner.old) (P.seen spawner.new) }
+    ensures keeps { Keeps place.old result place.new }
 {
     let _end = run_job(alloc, job, place, store, spawner, clock)?;
     place.unseen = true;
@@ -105,6 +108,7 @@ fn start_hook<S: Store, P: Spawner<S>, C: Clock>(
     ensures follows { S.told → Follows P.ran C.ticked spawner.old clock.old spawner.new clock.new (λ x. x)
         (hook_ends (hook_of name.now arguments.now input.now)) (spot_of (S.seen store.old) place.old) result (spot_of (S.seen store.new) place.new) }
     ensures cause { HasStepCause S.told stop_failed result (S.seen store.old) (S.seen store.new) (P.seen spawner.old) (P.seen spawner.new) }
+    ensures keeps { Keeps place.old result place.new }
 {
     let job = hook_job(alloc, name, arguments, input)?;
     end_hook(alloc, &job, place, store, spawner, clock)
@@ -126,6 +130,7 @@ pub fn run_hook<S: Store, P: Spawner<S>, C: Clock>(
     ensures follows { S.told → Follows P.ran C.ticked spawner.old clock.old spawner.new clock.new (λ x. x)
         (hook_does name.now arguments.now input.now) (spot_of (S.seen store.old) place.old) result (spot_of (S.seen store.new) place.new) }
     ensures cause { HasStepCause S.told stop_failed result (S.seen store.old) (S.seen store.new) (P.seen spawner.old) (P.seen spawner.new) }
+    ensures keeps { Keeps place.old result place.new }
 {
     if has_hook(alloc, name, store)? {
         return start_hook(alloc, name, arguments, input, place, store, spawner, clock);

@@ -12,6 +12,7 @@ ghost use Rattle.seq_outside.specs.Doing.{saying};
 ghost use Rattle.seq_outside.specs.Follows.{Follows};
 ghost use Rattle.seq_step.specs.Causes.{HasLineCause, stop_failed};
 ghost use Rattle.seq_step.specs.Finding.{sides_is};
+ghost use Rattle.seq_step.specs.Keeping.{HasSameLists, Keeps};
 
 use crate::finding::{Picking, Sides};
 use crate::stop::lacked_at;
@@ -40,6 +41,7 @@ fn merge_beside<S: Store, P: Spawner<S>, C: Clock>(
     ensures index { IfOk result HoldsIndex }
     ensures unrun { IfOk result (λ m. is_unrun m ≡ true → Rose (P.seen spawner.old).faults (P.seen spawner.new).faults) }
     ensures cause { HasMergeCause result (S.seen store.old) (S.seen store.new) (P.seen spawner.old) (P.seen spawner.new) }
+    ensures keeps { HasSameLists place.old place.new }
 {
     merge(
         alloc,
@@ -71,6 +73,7 @@ pub fn merge_step<S: Store, P: Spawner<S>, C: Clock>(
     ensures index { IfOk result HoldsIndex }
     ensures unrun { IfOk result (λ m. is_unrun m ≡ true → Rose (P.seen spawner.old).faults (P.seen spawner.new).faults) }
     ensures cause { HasLineCause stop_failed result (S.seen store.old) (S.seen store.new) (P.seen spawner.old) (P.seen spawner.new) }
+    ensures keeps { Keeps place.old result place.new }
 {
     match merge_beside(alloc, setting, at, sides, place, store, spawner, clock) {
         Ok(merged) => Ok(merged),

@@ -16,6 +16,7 @@ ghost use Rattle.seq_outside.specs.Seen.{Reads, Writes};
 ghost use Rattle.seq_outside.specs.Turns.{Turns};
 ghost use Rattle.seq_step.specs.Causes.{RunsNone, stop_failed};
 ghost use Rattle.ident_text.specs.Idents.{IsIdent, IsIdentText};
+ghost use Rattle.seq_step.specs.Keeping.{Keeps};
 ghost use Rattle.seq_step.specs.Settings.{MayCommit};
 
 use crate::head::head_found;
@@ -185,6 +186,7 @@ pub fn move_head<S: Store, P: Spawner<S>, C: Clock>(
         (spot_of (S.seen store.old) place.old) result (spot_of (S.seen store.new) place.new) }
     ensures none { RunsNone result }
     ensures cause { HasStepCause S.told stop_failed result (S.seen store.old) (S.seen store.new) (P.seen spawner.old) (P.seen spawner.new) }
+    ensures keeps { Keeps place.old result place.new }
 {
     match head_moved(alloc, head, id, line, store) {
         Ok(()) => Ok(()),

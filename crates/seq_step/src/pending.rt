@@ -8,10 +8,12 @@ ghost use Rattle.commit_maker.specs.Commits.{IsAuthor};
 ghost use Rattle.ident_text.specs.ReadIdents.{whole_ident_from};
 ghost use Rattle.line_steps.specs.Picks.{at_unmade as at_unmade_of, pending_of as pending_of_pick, stop_with as stop_with_pending};
 ghost use Rattle.ref_text.specs.ReadHeads.{ok_of};
+ghost use Rattle.state_text.specs.Controls.{IsPending};
 ghost use Rattle.seq_outside.specs.Doing.{stops};
 ghost use Rattle.seq_outside.specs.Follows.{Follows};
 ghost use Rattle.seq_step.specs.Causes.{stop_failed};
-ghost use Rattle.seq_step.specs.Finding.{picked_is};
+ghost use Rattle.seq_step.specs.Finding.{IsPicked, picked_is};
+ghost use Rattle.seq_step.specs.Keeping.{CanBeKept, Keeps};
 
 use crate::finding::Picked;
 use crate::stop::lacked_at;
@@ -48,6 +50,8 @@ pub fn copy_of_any(text: &Option<Bytes>) -> Result<Option<Bytes>, AllocError>
 
 /// The commit, as it is still to be made.
 fn pending_of(alloc: Global, edit: bool, pick: &Picked) -> Result<Pending, AllocError>
+    requires pick { IsPicked pick.now }
+    ensures value { IfOk result IsPending }
     ensures pending { IfOk result (λ pending. pending ≡ pending_of_pick edit (picked_is pick.now)) }
 {
     let author = author_of(alloc, pick.commit.author.as_slice())?;
@@ -67,7 +71,9 @@ pub fn stop_with(
     edit: bool,
     pick: &Picked,
 ) -> Result<Stop, AllocError>
+    requires pick { IsPicked pick.now }
     ensures stop { IfOk result (λ stop. stop ≡ stop_with_pending kind edit (picked_is pick.now)) }
+    ensures kept { IfOk result CanBeKept }
 {
     Ok(Stop {
         kind,
@@ -90,10 +96,12 @@ pub fn stop_pending<S: Store, P: Spawner<S>, C: Clock>(
     spawner: &mut P,
     clock: &mut C,
 ) -> Result<(), Halt<Stop>>
+    requires pick { IsPicked pick.now }
     ensures follows { S.told → Follows P.ran C.ticked spawner.old clock.old spawner.new clock.new (λ x. x)
         (stops (stop_with_pending kind edit (picked_is pick.now)))
         (spot_of (S.seen store.old) place.old) result (spot_of (S.seen store.new) place.new) }
     ensures cause { HasStepCause S.told stop_failed result (S.seen store.old) (S.seen store.new) (P.seen spawner.old) (P.seen spawner.new) }
+    ensures keeps { Keeps place.old result place.new }
 {
     let stop = stop_with(alloc, kind, edit, pick)?;
     Err(Halt::Stops(stop))
@@ -107,6 +115,8 @@ fn stop_failed_with(
     edit: bool,
     pick: &Picked,
 ) -> Result<Stop, AllocError>
+    requires pick { IsPicked pick.now }
+    ensures kept { IfOk result CanBeKept }
     ensures stop { IfOk result (λ stop. stop ≡ record (stop_with_pending kind edit (picked_is pick.now)) { failed = failed }) }
 {
     Ok(Stop {
@@ -125,6 +135,8 @@ pub fn at_unmade(
     pick: &Picked,
     why: MakeStop,
 ) -> Result<Stop, AllocError>
+    requires pick { IsPicked pick.now }
+    ensures kept { IfOk result CanBeKept }
     ensures stop { IfOk result (λ stop. stop ≡ at_unmade_of edit (picked_is pick.now) why) }
     ensures failed { IfOk result (λ stop. stop.failed ≡ make_failed why) }
 {

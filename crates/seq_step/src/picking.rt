@@ -3,12 +3,14 @@
 ghost use Rattle.std.specs.Prelude.{◌≡◌, IfOk};
 ghost use Rattle.child_steps.specs.Causes.{HasStepCause};
 ghost use Rattle.child_steps.specs.Children.{spot_of};
-ghost use Rattle.line_steps.specs.Picks.{at_broken as at_broken_of, commit_does, goes_forward as goes_forward_to, merge_does, merge_with, named_does, pick_does, picked_does, picks, unless_empty};
+ghost use Rattle.line_steps.specs.Picks.{at_broken as at_broken_of, commit_does, goes_forward as goes_forward_to, merge_does, merge_with};
+ghost use Rattle.line_steps.specs.Picks.{named_does, pick_does, picked_does, picks, unless_empty};
 ghost use Rattle.seq_outside.specs.Doing.{stops};
 ghost use Rattle.seq_outside.specs.Follows.{Follows};
 ghost use Rattle.seq_step.specs.Causes.{HasLineCause, IsBroken, stop_failed};
 ghost use Rattle.seq_step.specs.Finding.{IsPicked, IsPicking, picked_is, picking_is, sides_is};
 ghost use Rattle.line_steps.specs.Making.{commits_by, makers};
+ghost use Rattle.seq_step.specs.Keeping.{Keeps};
 ghost use Rattle.seq_step.specs.Settings.{MayCommit};
 
 use crate::committing::commit;
@@ -63,6 +65,7 @@ fn stop_broken<S: Store, P: Spawner<S>, C: Clock>(
         (stops (at_broken_of (picked_is pick.now) path.now exit failed))
         (spot_of (S.seen store.old) place.old) result (spot_of (S.seen store.new) place.new) }
     ensures kept { IsBroken failed result (S.seen store.old) (S.seen store.new) (P.seen spawner.old) (P.seen spawner.new) }
+    ensures keeps { Keeps place.old result place.new }
 {
     let stop = at_broken(alloc, pick, path, exit, failed)?;
     Err(Halt::Stops(stop))
@@ -85,9 +88,11 @@ fn commit_unless_empty<S: Store, P: Spawner<S>, C: Clock>(
     requires setting { MayCommit setting.now }
     requires at { IsPicking at.now }
     ensures follows { S.told → Follows P.ran C.ticked spawner.old clock.old spawner.new clock.new (λ x. x)
-        (unless_empty options.now (sides_is at.now sides.now) map.now (picked_is at.now.pick) (commit_does commits_by setting.now options.now.edit (picking_is at.now) map.now texts.now))
+        (unless_empty options.now (sides_is at.now sides.now) map.now (picked_is at.now.pick)
+        (commit_does commits_by setting.now options.now.edit (picking_is at.now) map.now texts.now))
         (spot_of (S.seen store.old) place.old) result (spot_of (S.seen store.new) place.new) }
     ensures cause { HasStepCause S.told stop_failed result (S.seen store.old) (S.seen store.new) (P.seen spawner.old) (P.seen spawner.new) }
+    ensures keeps { Keeps place.old result place.new }
 {
     if !is_same(alloc, map, &at.found.ours)? {
         return commit(
@@ -157,6 +162,7 @@ fn merge_sides<S: Store, P: Spawner<S>, C: Clock>(
         (merge_with makers setting.now options.now (picking_is at.now) (sides_is at.now sides.now))
         (spot_of (S.seen store.old) place.old) result (spot_of (S.seen store.new) place.new) }
     ensures cause { HasLineCause stop_failed result (S.seen store.old) (S.seen store.new) (P.seen spawner.old) (P.seen spawner.new) }
+    ensures keeps { Keeps place.old result place.new }
 {
     let merged = merge_step(alloc, setting, at, sides, place, store, spawner, clock)?;
     match &merged {
@@ -192,6 +198,7 @@ fn merge<S: Store, P: Spawner<S>, C: Clock>(
         (merge_does makers setting.now options.now (picking_is at.now))
         (spot_of (S.seen store.old) place.old) result (spot_of (S.seen store.new) place.new) }
     ensures cause { HasLineCause stop_failed result (S.seen store.old) (S.seen store.new) (P.seen spawner.old) (P.seen spawner.new) }
+    ensures keeps { Keeps place.old result place.new }
 {
     let sides = find_sides(alloc, at, store)?;
     merge_sides(
@@ -226,6 +233,7 @@ fn pick_by<S: Store, P: Spawner<S>, C: Clock>(
         (picks makers setting.now options.now (picking_is at.now))
         (spot_of (S.seen store.old) place.old) result (spot_of (S.seen store.new) place.new) }
     ensures cause { HasLineCause stop_failed result (S.seen store.old) (S.seen store.new) (P.seen spawner.old) (P.seen spawner.new) }
+    ensures keeps { Keeps place.old result place.new }
 {
     if goes_forward(options, at.head, at.pick.parent) {
         return forward(alloc, setting, at, place, store, spawner, clock);
@@ -252,6 +260,7 @@ fn pick_commit<S: Store, P: Spawner<S>, C: Clock>(
         (picked_does makers setting.now options.now head (picked_is pick))
         (spot_of (S.seen store.old) place.old) result (spot_of (S.seen store.new) place.new) }
     ensures cause { HasLineCause stop_failed result (S.seen store.old) (S.seen store.new) (P.seen spawner.old) (P.seen spawner.new) }
+    ensures keeps { Keeps place.old result place.new }
 {
     let found = find_found(alloc, pick.id, head, store)?;
     let at = Picking { head, found, pick };
@@ -275,6 +284,7 @@ fn pick_named<S: Store, P: Spawner<S>, C: Clock>(
         (named_does makers setting.now options.now rev.now head)
         (spot_of (S.seen store.old) place.old) result (spot_of (S.seen store.new) place.new) }
     ensures cause { HasLineCause stop_failed result (S.seen store.old) (S.seen store.new) (P.seen spawner.old) (P.seen spawner.new) }
+    ensures keeps { Keeps place.old result place.new }
 {
     let pick = find_picked(alloc, rev, store)?;
     pick_commit(
@@ -301,6 +311,7 @@ pub fn pick<S: Store, P: Spawner<S>, C: Clock>(
         (pick_does makers setting.now options.now rev.now)
         (spot_of (S.seen store.old) place.old) result (spot_of (S.seen store.new) place.new) }
     ensures cause { HasLineCause stop_failed result (S.seen store.old) (S.seen store.new) (P.seen spawner.old) (P.seen spawner.new) }
+    ensures keeps { Keeps place.old result place.new }
 {
     let head = place.head;
     pick_named(

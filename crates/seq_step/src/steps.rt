@@ -9,6 +9,7 @@ ghost use Rattle.line_steps.specs.Steps.{commit_line_does, line_does};
 ghost use Rattle.seq_outside.specs.Follows.{Follows};
 ghost use Rattle.seq_step.specs.Causes.{HasLineCause, stop_failed};
 ghost use Rattle.line_steps.specs.Making.{makers};
+ghost use Rattle.seq_step.specs.Keeping.{Keeps};
 ghost use Rattle.seq_step.specs.Settings.{MayCommit};
 
 use crate::command::exec;
@@ -44,6 +45,7 @@ fn exec_line<S: Store, P: Spawner<S>, C: Clock>(
     ensures follows { S.told → Follows P.ran C.ticked spawner.old clock.old spawner.new clock.new (λ x. x)
         (exec_does again command.now) (spot_of (S.seen store.old) place.old) result (spot_of (S.seen store.new) place.new) }
     ensures cause { HasLineCause stop_failed result (S.seen store.old) (S.seen store.new) (P.seen spawner.old) (P.seen spawner.new) }
+    ensures keeps { Keeps place.old result place.new }
 {
     exec(
         alloc,
@@ -71,6 +73,7 @@ fn pick_rev<S: Store, P: Spawner<S>, C: Clock>(
     ensures follows { S.told → Follows P.ran C.ticked spawner.old clock.old spawner.new clock.new (λ x. x)
         (pick_does makers setting.now options.now rev.now) (spot_of (S.seen store.old) place.old) result (spot_of (S.seen store.new) place.new) }
     ensures cause { HasLineCause stop_failed result (S.seen store.old) (S.seen store.new) (P.seen spawner.old) (P.seen spawner.new) }
+    ensures keeps { Keeps place.old result place.new }
 {
     pick(
         alloc,
@@ -101,6 +104,7 @@ fn commit_line<S: Store, P: Spawner<S>, C: Clock>(
         (commit_line_does makers setting.now options.now kind rev.now)
         (spot_of (S.seen store.old) place.old) result (spot_of (S.seen store.new) place.new) }
     ensures cause { HasLineCause stop_failed result (S.seen store.old) (S.seen store.new) (P.seen spawner.old) (P.seen spawner.new) }
+    ensures keeps { Keeps place.old result place.new }
 {
     match kind {
         PickKind::Pick => { pick_rev(alloc, setting, options, rev, place, store, spawner, clock) }
@@ -115,8 +119,8 @@ fn commit_line<S: Store, P: Spawner<S>, C: Clock>(
     }
 }
 
-/// Does what a line of a todo says (git-rebase(1), "INTERACTIVE MODE"). It stops the list as the line does; a line of a kind that is not built stops it
-/// with TodoBad.
+/// Does what a line of a todo says (git-rebase(1), "INTERACTIVE MODE"). It stops the list as the line does; a line of a kind that is not built
+/// stops it with TodoBad.
 #[tactic(auto, unfolding(line_steps::specs::Steps::line_does, line_steps::specs::Lines::break_does))]
 pub fn step<S: Store, P: Spawner<S>, C: Clock>(
     alloc: Global,
@@ -133,6 +137,7 @@ pub fn step<S: Store, P: Spawner<S>, C: Clock>(
         (line_does makers setting.now options.now line.now)
         (spot_of (S.seen store.old) place.old) result (spot_of (S.seen store.new) place.new) }
     ensures cause { HasLineCause stop_failed result (S.seen store.old) (S.seen store.new) (P.seen spawner.old) (P.seen spawner.new) }
+    ensures keeps { Keeps place.old result place.new }
 {
     match line {
         Line::Pick { kind, rev, .. } => commit_line(

@@ -15,6 +15,7 @@ ghost use Rattle.seq_outside.specs.Turns.{Turns};
 ghost use Rattle.seq_step.specs.Causes.{RunsNone, stop_failed};
 ghost use Rattle.seq_step.specs.Finding.{found_is};
 ghost use Rattle.worktree.specs.Switches.{unobstructed};
+ghost use Rattle.seq_step.specs.Keeping.{Keeps};
 
 use crate::finding::{Found, may_have};
 use crate::stop::lacked_at;
@@ -93,7 +94,8 @@ fn switch_found<S: Store>(
     store: &mut S,
 ) -> Result<(), Halt<Lack>>
     requires order { IsInOrder found.now.index.items }
-    ensures turns { S.told → Turns (λ x. x) result (switched_over found.now.index.items map.now (S.seen store.old).content) (S.seen store.new).content }
+    ensures turns { S.told → Turns (λ x. x) result (switched_over found.now.index.items map.now (S.seen store.old).content)
+        (S.seen store.new).content }
     ensures writes { Writes S.told halt_cause result (S.seen store.old) (S.seen store.new) }
 {
     switch_over(alloc, &found.index, map, store)
@@ -116,6 +118,7 @@ pub fn switch_step<S: Store, P: Spawner<S>, C: Clock>(
         (spot_of (S.seen store.old) place.old) result (spot_of (S.seen store.new) place.new) }
     ensures none { RunsNone result }
     ensures cause { HasStepCause S.told stop_failed result (S.seen store.old) (S.seen store.new) (P.seen spawner.old) (P.seen spawner.new) }
+    ensures keeps { Keeps place.old result place.new }
 {
     match switch_found(alloc, found, map, store) {
         Ok(()) => Ok(()),
@@ -173,7 +176,8 @@ pub fn put_tree<S: Store>(
     map: &PathMap,
     store: &mut S,
 ) -> Result<Id, Halt<Lack>>
-    ensures turns { S.told → Turns (λ id. id) result (tree_put (found_is found.now) map.now (S.seen store.old).content) (S.seen store.new).content }
+    ensures turns { S.told → Turns (λ id. id) result (tree_put (found_is found.now) map.now (S.seen store.old).content)
+        (S.seen store.new).content }
     ensures writes { Writes S.told halt_cause result (S.seen store.old) (S.seen store.new) }
 {
     if is_same(alloc, map, &found.ours)? {
@@ -192,7 +196,8 @@ fn switch_giving<S: Store>(
 ) -> Result<Id, Halt<Lack>>
     requires order { IsInOrder index.now }
     requires few { length map.now < 2 ^ 32 }
-    ensures turns { S.told → Turns (λ id. id) result (switched_giving index.now map.now tree (S.seen store.old).content) (S.seen store.new).content }
+    ensures turns { S.told → Turns (λ id. id) result (switched_giving index.now map.now tree (S.seen store.old).content)
+        (S.seen store.new).content }
     ensures writes { Writes S.told halt_cause result (S.seen store.old) (S.seen store.new) }
 {
     switch_clear(alloc, store, index, map)?;
@@ -255,6 +260,7 @@ pub fn switch_merged<S: Store, P: Spawner<S>, C: Clock>(
         (spot_of (S.seen store.old) place.old) result (spot_of (S.seen store.new) place.new) }
     ensures none { RunsNone result }
     ensures cause { HasStepCause S.told stop_failed result (S.seen store.old) (S.seen store.new) (P.seen spawner.old) (P.seen spawner.new) }
+    ensures keeps { Keeps place.old result place.new }
 {
     match switch_with(alloc, found, map, texts, store) {
         Ok(tree) => Ok(tree),

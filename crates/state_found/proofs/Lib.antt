@@ -13,3 +13,4 @@ pub mod OneLaws
 pub mod StateLaws
 pub mod StopLaws
 pub mod EditLaws
+pub mod ControlLaws

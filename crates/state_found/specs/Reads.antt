@@ -3,7 +3,9 @@ use Rattle.std.specs.Prelude.{◌≡◌, Result, Ok, Err}
 use Rattle.seq_base.specs.World.{World}
 use Rattle.seq_outside.specs.declared.halt.Halt.{Halt}
 use Rattle.seq_outside.specs.declared.halt.Halt.TheVariants.{Stops, Fault, Memory}
+use Rattle.state_text.specs.Controls.{IsControl}
 use Rattle.state_text.specs.declared.control.Control.{Control}
+use Rattle.state_text.specs.declared.control.Left.{Left}
 use Rattle.state_found.specs.declared.found.Found.{Found}
 use Rattle.state_found.specs.declared.found.Found.TheVariants.{Nothing, Paused, Interrupted}
 use Rattle.state_found.specs.declared.fault.StateFault.{StateFault}
@@ -33,6 +35,15 @@ IsStateRead w (Ok found) = IsOnlyAnswer w (Ok found)
 IsStateRead w (Err (Stops fault)) = IsOnlyAnswer w (Err fault)
 IsStateRead w (Err Fault) = Unit {0}
 IsStateRead w (Err Memory) = Unit {0}
+
+-- files can tell the control, whatever is left of it
+abbrev pub IsControlBut : Control → Type 0
+IsControlBut k = (left : Left) × IsControl (record k { left = left })
+
+abbrev pub HasControl : Found → Type 0
+HasControl Nothing = Unit {0}
+HasControl (Paused k) = IsControlBut k
+HasControl (Interrupted verb) = Unit {0}
 
 -- what was read is that control, unless the store failed or memory ran out
 abbrev pub IsReadAs : Control → Result Found (Halt StateFault) → Type 0

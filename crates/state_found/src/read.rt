@@ -8,7 +8,7 @@ ghost use Rattle.seq_outside.specs.Halts.{halt_cause};
 ghost use Rattle.seq_outside.specs.Seen.{Reads, store_cause};
 ghost use Rattle.state_found.specs.Found.{has_files as has_files_by, is_asked as is_asked_by, verb_of_step as verb_of_step_by};
 ghost use Rattle.state_found.specs.Judged.{IsRebaseJudged, IsSequenceJudged, files_found};
-ghost use Rattle.state_found.specs.Reads.{IsStateRead};
+ghost use Rattle.state_found.specs.Reads.{HasControl, IsControlBut, IsStateRead};
 ghost use Rattle.state_text.specs.Places.{folder_of as folder_of_by, in_step_path as in_step_path_by, state_path as state_path_by};
 
 use crate::fault::StateFault;
@@ -123,7 +123,9 @@ fn verb_of_step(text: &[u8]) -> Verb
 }
 
 fn paused(judged: Result<Control, StateFile>) -> Result<Found, Halt<StateFault>>
-    ensures { result ≡ result_map_both (λ k. Found.Paused k) (λ f. Halt.Stops (StateFault.Bad f)) judged }
+    requires control { IfOk judged IsControlBut }
+    ensures control { IfOk result HasControl }
+    ensures found { result ≡ result_map_both (λ k. Found.Paused k) (λ f. Halt.Stops (StateFault.Bad f)) judged }
 {
     match judged {
         Ok(control) => Ok(Found::Paused(control)),
@@ -132,6 +134,7 @@ fn paused(judged: Result<Control, StateFile>) -> Result<Found, Halt<StateFault>>
 }
 
 /// The rebase that these files tell, and the todo.
+#[tactic(auto, using(crate::proofs::ControlLaws::rebase_but))]
 fn rebase_with_todo<S: Store>(
     alloc: Global,
     store: &mut S,
@@ -139,6 +142,7 @@ fn rebase_with_todo<S: Store>(
 ) -> Result<Result<Control, StateFile>, StoreError>
     ensures judged { S.told → IfOk result (IsRebaseJudged found.now
         (unwrap_or (map.get (S.seen store.old).content (state_path_by Verb.Rebase StateFile.RebaseTodo)) [])) }
+    ensures control { IfOk result (λ judged. IfOk judged IsControlBut) }
     ensures reads { Reads S.told store_cause result (S.seen store.old) (S.seen store.new) }
 {
     let todo = todo_bytes(alloc, store)?;
@@ -152,17 +156,20 @@ fn rebase_at<S: Store>(
 ) -> Result<Result<Control, StateFile>, StoreError>
     ensures judged { S.told → IfOk result (IsRebaseJudged (files_found (S.seen store.old).content Verb.Rebase)
         (unwrap_or (map.get (S.seen store.old).content (state_path_by Verb.Rebase StateFile.RebaseTodo)) [])) }
+    ensures control { IfOk result (λ judged. IfOk judged IsControlBut) }
     ensures reads { Reads S.told store_cause result (S.seen store.old) (S.seen store.new) }
 {
     let found = found_files(alloc, store, Verb::Rebase)?;
     Ok(rebase_with_todo(alloc, store, &found)?)
 }
 
+#[tactic(auto, using(crate::proofs::ControlLaws::sequence_but))]
 fn sequence_at<S: Store>(
     alloc: Global,
     store: &mut S,
 ) -> Result<Result<Control, StateFile>, StoreError>
     ensures judged { S.told → IfOk result (IsSequenceJudged (files_found (S.seen store.old).content Verb.CherryPick)) }
+    ensures control { IfOk result (λ judged. IfOk judged IsControlBut) }
     ensures reads { Reads S.told store_cause result (S.seen store.old) (S.seen store.new) }
 {
     let found = found_files(alloc, store, Verb::CherryPick)?;
@@ -174,6 +181,7 @@ fn sequence_at<S: Store>(
 fn read_rebase<S: Store>(alloc: Global, store: &mut S) -> Result<Found, Halt<StateFault>>
     ensures state { S.told → has_files_by (S.seen store.old).content (folder_of_by Verb.Rebase) ≡ true
         → IsStateRead (S.seen store.old).content result }
+    ensures control { IfOk result HasControl }
     ensures reads { Reads S.told halt_cause result (S.seen store.old) (S.seen store.new) }
 {
     if let Some(_) = step_text(alloc, store, Verb::Rebase)? {
@@ -187,6 +195,7 @@ fn read_rebase<S: Store>(alloc: Global, store: &mut S) -> Result<Found, Halt<Sta
 fn read_sequence<S: Store>(alloc: Global, store: &mut S) -> Result<Found, Halt<StateFault>>
     ensures state { S.told → has_files_by (S.seen store.old).content (folder_of_by Verb.Rebase) ≡ false
         → has_files_by (S.seen store.old).content (folder_of_by Verb.CherryPick) ≡ true → IsStateRead (S.seen store.old).content result }
+    ensures control { IfOk result HasControl }
     ensures reads { Reads S.told halt_cause result (S.seen store.old) (S.seen store.new) }
 {
     if let Some(text) = step_text(alloc, store, Verb::CherryPick)? {
@@ -200,6 +209,7 @@ fn read_sequence<S: Store>(alloc: Global, store: &mut S) -> Result<Found, Halt<S
 /// stands. Bad with the first file, in their order, such that no control has it and those before it (git-rebase(1), `--continue`).
 pub fn read_state<S: Store>(alloc: Global, store: &mut S) -> Result<Found, Halt<StateFault>>
     ensures state { S.told → IsStateRead (S.seen store.old).content result }
+    ensures control { IfOk result HasControl }
     ensures reads { Reads S.told halt_cause result (S.seen store.old) (S.seen store.new) }
 {
     if has_files(alloc, store, Verb::Rebase)? {

@@ -15,4 +15,4 @@ returns-clause-state g c = λ told there.
     let judged = c.in_ok-rebase_at.field-0 in
     let is = subst (λ (v : World). IsRebaseJudged (files_found v Rebase) (unwrap_or (files.get v (state_path Rebase file.RebaseTodo)) []) judged)
     (c.in_ok-step_text.ensures.reads.0 told) (c.in_ok-rebase_at.ensures.judged told) in
-    rw c.paused.ensures (rebase_state w judged is there (rw c.in_default.is at (c.in_ok-step_text.ensures.text told)))
+    rw c.paused.ensures.found (rebase_state w judged is there (rw c.in_default.is at (c.in_ok-step_text.ensures.text told)))

@@ -11,4 +11,4 @@ returns-clause-state g c = λ told none there.
     let judged = c.in_ok-sequence_at.field-0 in
     let is = subst (λ (v : World). IsSequenceJudged (files_found v CherryPick) judged) (c.in_ok-text.ensures.reads.0 told)
     (c.in_ok-sequence_at.ensures.judged told) in
-    rw c.paused.ensures (sequence_state w judged is none there (rw c.in_default.is at (c.in_ok-text.ensures.text told)))
+    rw c.paused.ensures.found (sequence_state w judged is none there (rw c.in_default.is at (c.in_ok-text.ensures.text told)))
