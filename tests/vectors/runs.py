@@ -11,6 +11,23 @@ WHO = [("GIT_COMMITTER_NAME", "Sam"), ("GIT_COMMITTER_EMAIL", "sam@x")]
 MOMENT = 2000
 
 
+def worktree(repository):
+    found = {}
+    for above, folders, names in os.walk(repository.top):
+        if ".git" in folders:
+            folders.remove(".git")
+        for name in names:
+            path = os.path.join(above, name)
+            with open(path, "rb") as file:
+                found[os.fsencode(os.path.relpath(path, repository.top))] = file.read()
+    return found
+
+
+def seen(repository):
+    """What gitseq sees of a repository but its settings; the index with stat words of 0."""
+    return objects_of(repository) | refs_of(repository) | {b".git/index": written(rows_of(repository))} | worktree(repository)
+
+
 class History:
     """A repository of git: `base` has the file `a`; commits stand on it, and `master` is at `add c`."""
 
@@ -50,25 +67,8 @@ class History:
                 os.unlink(os.path.join(above, name))
 
     def files(self):
-        """What gitseq sees of the repository; the index with stat words of 0."""
-        found = objects_of(self.repository) | refs_of(self.repository)
-        found[b".git/index"] = written(rows_of(self.repository))
-        if self.has_settings:
-            found[b".git/config"] = self.repository.read(".git/config")
-        for path, text in self.worktree().items():
-            found[path] = text
-        return found
-
-    def worktree(self):
-        found = {}
-        for above, folders, names in os.walk(self.repository.top):
-            if ".git" in folders:
-                folders.remove(".git")
-            for name in names:
-                path = os.path.join(above, name)
-                with open(path, "rb") as file:
-                    found[os.fsencode(os.path.relpath(path, self.repository.top))] = file.read()
-        return found
+        settings = {b".git/config": self.repository.read(".git/config")} if self.has_settings else {}
+        return seen(self.repository) | settings
 
     def pick(self, word, who):
         """Picks by git at the moment."""
@@ -296,9 +296,88 @@ def add_picks(cases):
         add_pick(cases, history, history.add_b, (MOMENT,), who=who)
 
 
+class Steps:
+    """Commands that git and gitseq are given alike, each in the repository that git left."""
+
+    def __init__(self, cases):
+        self.cases = cases
+        self.repository = Repository()
+        self.repository.git("config", "core.filemode", "false")
+
+    def step(self, verb, *paths, options=()):
+        before = seen(self.repository)
+        self.repository.git(verb, *options, *paths)
+        status, head, _ = self.repository.try_git("rev-parse", "-q", "--verify", "HEAD")
+        printed = b"done " + (head if status == 0 else b"unborn\n")
+        answer = ["status", 0, printed, *changed(before, seen(self.repository))]
+        self.cases.add("run", fields_of(before, [verb, *paths], []), answer)
+
+    def remove_file(self, path):
+        os.unlink(self.repository.path(path))
+
+
+def add_plumbing(cases):
+    cases.group("A repository that is made: `init`, by the written rule; an old configuration is overwritten, and a ref that stands is HEAD's.")
+    made = {b".git/HEAD": b"ref: refs/heads/master\n", b".git/config": b"[core]\n\trepositoryformatversion = 0\n"}
+    ref = {b".git/refs/heads/master": b"1234567890" * 4 + b"\n"}
+    for before, head in (({}, b"unborn"), ({b"a": b"hello\n", b".git/config": b"x"}, b"unborn"), (ref, b"1234567890" * 4)):
+        cases.add("run", fields_of(before, ["init"], []), ["status", 0, b"done " + head + b"\n", *changed(before, before | made)])
+        refused(cases, before | made, ["init"], "refused already-a-repository\n", 3, [])
+    cases.group("Files added and removed: the objects, the index (with stat words of 0) and the files that `git add` and `git rm` leave.")
+    steps = Steps(cases)
+    repository = steps.repository
+    repository.write("a", b"hello\n")
+    repository.write("d/n", b"n\n")
+    repository.write("h\u00f6he", b"")
+    steps.step("add", "a")
+    steps.step("add", "h\u00f6he", "d/n", "a")
+    repository.git("update-index", "--chmod=+x", "a")
+    repository.write("a", b"hello again\n")
+    steps.step("add", "a")
+    repository.git("commit", "-q", "-m", "m")
+    steps.remove_file("a")
+    repository.write("a/b", b"hello\n")
+    steps.step("add", "a/b")
+    repository.write("d/m", b"m\n")
+    steps.step("add", "d/m")
+    steps.remove_file("a/b")
+    steps.step("add", "a/b", "h\u00f6he")
+    steps.step("rm", "d/n", options=["-q", "-f"])
+    blob = repository.put("blob", b"n\n")
+    stages = "".join(f"100644 {blob} {stage}\td/m\n" for stage in (1, 2, 3))
+    repository.git("update-index", "--force-remove", "d/m")
+    repository.git("update-index", "--index-info", stdin=stages.encode())
+    steps.step("add", "d/m")
+    repository.git("update-index", "--force-remove", "d/m")
+    repository.git("update-index", "--index-info", stdin=stages.encode())
+    steps.step("rm", "d/m", "h\u00f6he", options=["-q", "-f"])
+    cases.group("Words that name no file: each fault over all words before the next; nothing is changed. By the written rule.")
+    inside = {b".git/HEAD": b"ref: refs/heads/master\n", b"d/n": b"hello\n"}
+    for words, printed in [
+        (["add", "nosuch", "../a"], "bad-path ../a"),
+        (["rm", "d/n", "d/.Git/x"], "bad-path d/.Git/x"),
+        (["add", "/a"], "bad-path /a"),
+        (["add", "d//n"], "bad-path d//n"),
+        (["add", "d/n", "d"], "not-tracked d"),
+        (["rm", "d/n"], "not-tracked d/n"),
+        (["cat", "ce01"], "bad-rev-form ce01"),
+        (["cat", "HEAD"], "bad-rev-form HEAD"),
+        (["cat", "1234567890" * 4], "bad-object " + "1234567890" * 4),
+    ]:
+        refused(cases, inside, words, f"refused {printed}\n", 3, [])
+        refused(cases, inside | {b".git/config": b"[core\n"}, words, "refused bad-config 1\n", 3, [])
+        refused(cases, {b"d/n": b"hello\n"}, words, "refused not-a-repository\n", 3, [])
+    cases.group("The content of an object, as `git cat-file` prints it, for an id in either case.")
+    for name in (blob, repository.line("rev-parse", "HEAD"), repository.line("rev-parse", "HEAD^{tree}")):
+        kind = repository.line("cat-file", "-t", name)
+        for word in (name, name.upper()):
+            cases.add("run", fields_of(seen(repository), ["cat", word], []), ["status", 0, repository.git("cat-file", kind, name)])
+
+
 def add(cases):
     add_words(cases)
     history = History()
     add_refusals(cases, history, history.files())
     add_names(cases)
     add_picks(cases)
+    add_plumbing(cases)

@@ -14,11 +14,13 @@ use Rattle.seq_model.specs.Making.{message_path}
 abbrev pub IsRefFile : Path → Type 0
 IsRefFile path = (name : Name) × IsRefName name × ((path ≡ ref_path name) ⊎ (path ≡ log_path name))
 
--- a file that a pick may change: of an object, of a ref or its log, the index, the commit's message, and a path of the worktree
+-- a file that an invocation may change: of an object, of a ref or its log, the index, the configuration, the commit's message, and a path of the
+-- worktree
 pub data MayChange (path : Path) : Type 0 where
   IsObject : is_object_place path ≡ true → MayChange path
   IsRef : IsRefFile path → MayChange path
   IsIndex : path ≡ codes ".git/index" → MayChange path
+  IsConfig : path ≡ codes ".git/config" → MayChange path
   IsMessage : path ≡ message_path → MayChange path
   IsInWorktree : IsPath path → MayChange path
 

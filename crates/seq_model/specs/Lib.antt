@@ -13,14 +13,13 @@ pub mod Checks
 pub mod Settings
 pub mod Basis
 pub mod Unbuilt
+pub mod Judged
 pub mod Committers
 pub mod Making
 pub mod Pick
 pub mod Picked
 pub mod Changes
-pub mod Answers
 pub mod Rows
 pub mod Given
 pub mod Faults
 pub mod Commands
-pub mod Built

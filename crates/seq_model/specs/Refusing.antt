@@ -36,6 +36,13 @@ denied_git (lacks.Limit what number) = Limit what number
 denied_git (lacks.Way path) = Refused NotBuilt
 denied_git (lacks.Place id) = Refused NotBuilt
 
+-- what objects and files of `.git` that are put lack, where another text in an object's file is told by the object's id
+abbrev pub denied_put : Lack → Denial
+denied_put (lacks.Object id) = Refused (BadObject id)
+denied_put (lacks.Limit what number) = Limit what number
+denied_put (lacks.Way path) = Refused NotBuilt
+denied_put (lacks.Place id) = Refused (BadObject id)
+
 -- why a step gives no value, told otherwise
 abbrev pub told_by : {E F : Type 0} → (E → F) → Halt E → Halt F
 told_by told (Stops why) = Stops (told why)

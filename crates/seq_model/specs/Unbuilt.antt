@@ -1,12 +1,20 @@
 -- What stands in a repository that a pick does not take yet: another command in progress (git-status(1)), and hooks.
-use Rattle.std.specs.Prelude.{ℕ, not, ◌==◌, List, [], ◌∷◌, length, codes, Result, Ok, is_some}
+use Rattle.std.specs.Prelude.{ℕ, not, ◌==◌, List, [], ◌∷◌, length, codes, Result, Ok, Err, is_some}
 use Rattle.std.specs.FinMap as map
 use Rattle.seq_base.specs.World.{World}
 use Rattle.seq_outside.specs.Store.{files_below}
 use Rattle.seq_outside.specs.Halts.{◌>>=◌}
+use Rattle.seq_model.specs.Checks.{is_repository}
 use Rattle.seq_model.specs.Refusing.{refuse_if}
 use Rattle.seq_model.specs.declared.denial.Denial.{Denial}
+use Rattle.seq_model.specs.declared.denial.Denial.TheVariants.{Refused}
 use Rattle.seq_model.specs.declared.refusal.Refusal.TheVariants.{NotBuilt}
+
+-- what is known and not built yet is refused, in a repository
+unfoldable pub not_built : {X : Type 0} → World → Result X Denial
+not_built w = do
+  repository ← is_repository w
+  Err (Refused NotBuilt)
 
 -- no file stands below the path
 unfoldable pub lacks_below : World → List ℕ → Result (Unit {0}) Denial

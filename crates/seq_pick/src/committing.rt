@@ -130,7 +130,7 @@ fn line_of(
 }
 
 /// Puts a commit, and answers its id.
-#[tactic(auto, using(crate::proofs::Owning::objects_owned))]
+#[tactic(auto, using(seq_model::proofs::Owning::objects_owned))]
 fn put_commit<S: Store>(alloc: Global, commit: &Commit, store: &mut S) -> Result<Id, Halt<Denial>>
     requires { IsCommitValue commit.now }
     ensures turns { S.told → Turns (λ id. id) result
@@ -191,7 +191,7 @@ fn move_to<S: Store>(
 }
 
 /// Puts a commit, and moves HEAD to it; answers its id.
-#[tactic(auto, unfolding(seq_model::specs::Making::with_commit), using(crate::proofs::Owning::owned_both))]
+#[tactic(auto, unfolding(seq_model::specs::Making::with_commit), using(seq_model::proofs::Owning::owned_both))]
 fn commit_with<S: Store>(
     alloc: Global,
     on: &Head,

@@ -49,7 +49,7 @@ fn refuse_unfit(map: &PathMap, index: &[IndexEntry], ours: &PathMap) -> Result<(
 }
 
 /// The trees of a map.
-#[tactic(auto, using(crate::proofs::Owning::objects_owned))]
+#[tactic(auto, using(seq_model::proofs::Owning::objects_owned))]
 fn put_trees<S: Store>(alloc: Global, map: &PathMap, store: &mut S) -> Result<Id, Halt<Denial>>
     ensures turns { S.told → Turns (λ id. id) result (saying denied_git (trees_put map.now) (S.seen store.old).content) (S.seen store.new).content }
     ensures owns { S.told → Changes (S.seen store.old).content (S.seen store.new).content }
@@ -62,7 +62,7 @@ fn put_trees<S: Store>(alloc: Global, map: &PathMap, store: &mut S) -> Result<Id
 }
 
 /// Index and files, switched to a map in whose way no file is.
-#[tactic(auto, using(crate::proofs::Owning::switch_owned))]
+#[tactic(auto, using(seq_model::proofs::Owning::switch_owned))]
 fn switch<S: Store>(
     alloc: Global,
     index: &[IndexEntry],
@@ -84,7 +84,7 @@ fn switch<S: Store>(
 }
 
 /// The message of the commit that is made.
-#[tactic(auto, unfolding(seq_outside::specs::Turns::put_in), using(crate::proofs::Owning::message_owned))]
+#[tactic(auto, unfolding(seq_outside::specs::Turns::put_in), using(seq_model::proofs::Owning::message_owned))]
 fn put_message<S: Store>(alloc: Global, message: &[u8], store: &mut S) -> Result<(), Halt<Denial>>
     ensures turns { S.told → Turns (λ x. x) result
         (saying denied_git (put_in message_path message.now) (S.seen store.old).content)
@@ -101,7 +101,7 @@ fn put_message<S: Store>(alloc: Global, message: &[u8], store: &mut S) -> Result
 }
 
 /// Trees, index and files, and the message, for a map in whose way no file is; answers the root's id.
-#[tactic(auto, unfolding(seq_model::specs::Making::switched_clear_to), using(crate::proofs::Owning::owned_both))]
+#[tactic(auto, unfolding(seq_model::specs::Making::switched_clear_to), using(seq_model::proofs::Owning::owned_both))]
 fn make_clear<S: Store>(
     alloc: Global,
     index: &[IndexEntry],

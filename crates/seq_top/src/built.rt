@@ -1,10 +1,10 @@
 //! What is built of what words can ask for.
 
 ghost use Rattle.std.specs.Prelude.{◌≡◌, option_map};
-ghost use Rattle.seq_model.specs.Built.{commit_to_pick as commit_to_pick_of, is_cherry_pick as is_cherry_pick_verb, is_plain as is_plain_of, is_stop as is_stop_of, only_word as only_word_of, picked_alone as picked_alone_by};
+ghost use Rattle.seq_top.specs.Built.{is_cherry_pick as is_cherry_pick_verb, is_plain as is_plain_of, is_stop as is_stop_of, only_word as only_word_of, picked_alone as picked_alone_by};
 
 use seq_base::Bytes;
-use seq_model::{Command, Empty, Options, StartWords, Verb};
+use seq_model::{Empty, Options, StartWords, Verb};
 
 fn is_stop(empty: Empty) -> bool
     ensures { result ≡ is_stop_of empty }
@@ -44,22 +44,13 @@ fn only_word(words: &[Bytes]) -> Option<&[u8]>
     }
 }
 
-fn picked_alone(start: &StartWords) -> Option<&[u8]>
+/// The word of the commit to pick, where that is what is asked for: a cherry-pick of one commit, without options.
+pub fn picked_alone(start: &StartWords) -> Option<&[u8]>
     ensures { option_map (λ word. word.now) result ≡ picked_alone_by start.now }
 {
     if is_cherry_pick(start.verb) && is_plain(start.options) {
         only_word(start.revs.as_slice())
     } else {
         None
-    }
-}
-
-/// The word of the commit to pick, where that is what is asked for: a cherry-pick of one commit, without options.
-pub fn commit_to_pick(command: &Command) -> Option<&[u8]>
-    ensures { option_map (λ word. word.now) result ≡ commit_to_pick_of command.now }
-{
-    match command {
-        Command::Start(start) => picked_alone(start),
-        Command::Act(..) | Command::Plumb(_) => None,
     }
 }

@@ -15,7 +15,7 @@ mod settings;
 
 pub use basis::{Basis, read_basis};
 pub use commits::{commit_map, commit_of, tree_map};
-pub use halt::{file_halt, git_halt};
+pub use halt::{file_halt, git_halt, put_halt};
 pub use identity::committer;
 pub use index::{INDEX_LIMIT, read_index, want_merged};
 pub use named::{born, commit_by};

@@ -1,4 +1,4 @@
-use Rattle.seq_pick.proofs.Owning.{head_owned}
+use Rattle.seq_model.proofs.Owning.{head_owned}
 use Rattle.seq_pick.proofs.committing.put_head.Goals as goal
 
 pub returns-in-Ok-clause-owns : goal.returns-in-Ok-clause-owns

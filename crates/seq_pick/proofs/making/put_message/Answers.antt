@@ -1,4 +1,4 @@
-use Rattle.seq_pick.proofs.Owning.{message_owned}
+use Rattle.seq_model.proofs.Owning.{message_owned}
 use Rattle.seq_pick.proofs.making.put_message.Goals as goal
 
 pub returns-in-Ok-clause-owns : goal.returns-in-Ok-clause-owns

@@ -1,5 +1,5 @@
 use Rattle.std.proofs.Common.{rules}
-use Rattle.seq_pick.proofs.Repositories.{keeps_repository}
+use Rattle.seq_model.proofs.Repositories.{keeps_repository}
 use Rattle.seq_top.proofs.judging.pick.Goals as goal
 
 pub returns-clause-keeps : goal.returns-clause-keeps

@@ -1,4 +1,4 @@
--- A repository stays one where only a pick's own files were changed.
+-- A repository stays one where only an invocation's own files were changed.
 use Rattle.std.proofs.Common.{◌≡◌, ◌⊎◌, inl, inr, Bool, true, false, not, is_some, refl, sym, ap, subst, ◌∙◌}
 use Rattle.std.specs.Prelude.{codes}
 use Rattle.std.specs.FinMap as map
@@ -11,10 +11,10 @@ use Rattle.seq_base.specs.Words.{Name, Path}
 use Rattle.seq_base.specs.World.{World, IsWorld, is_below}
 use Rattle.seq_base.proofs.Places.{in_place_below, path_in_place, place_in_place}
 use Rattle.seq_base.proofs.RefPaths.{ref_log_placed, ref_placed}
-use Rattle.seq_model.specs.Changes.{Changes, KeepsRepository, MayChange, IsObject, IsRef, IsIndex, IsMessage, IsInWorktree}
+use Rattle.seq_model.specs.Changes.{Changes, KeepsRepository, MayChange, IsObject, IsRef, IsIndex, IsConfig, IsMessage, IsInWorktree}
 use Rattle.seq_model.specs.Making.{message_path}
 use Rattle.seq_outside.specs.Writes.{IsBetween, IsOnTheWay}
-use Rattle.seq_pick.proofs.Owning.{owned_both}
+use Rattle.seq_model.proofs.Owning.{owned_both}
 
 of_ref : (path : Path) (name : Name) → IsRefName name → (path ≡ ref_path name) ⊎ (path ≡ log_path name) → is_in_place path ≡ true
 of_ref path name is (inl ref) = ap is_in_place ref ∙ ref_placed name is
@@ -24,6 +24,7 @@ in_place : (path : Path) → MayChange path → is_in_place path ≡ true
 in_place path (IsObject is) = place_in_place path (and_parts (is_below (codes ".git/objects") path) (is_file_place (parts path)) is).1
 in_place path (IsRef ref) = of_ref path ref.0 ref.1 ref.2
 in_place path (IsIndex is) = ap is_in_place is ∙ place_in_place (codes ".git/index") refl
+in_place path (IsConfig is) = ap is_in_place is ∙ place_in_place (codes ".git/config") refl
 in_place path (IsMessage is) = ap is_in_place is ∙ place_in_place message_path refl
 in_place path (IsInWorktree is) = path_in_place path is
 
@@ -53,7 +54,7 @@ module _ (old new : World) (changes : Changes old new) where
     };
   }
 
--- ---- what was made on the way is a pick's own too
+-- ---- what was made on the way is its own too
 
 pub owned_between : (old aim now : World) → Changes old aim → IsBetween old aim now → Changes old now
 owned_between old aim now changes between = record { others = λ path not_own. at path (between path) (changes.others path not_own) }
@@ -63,7 +64,7 @@ owned_between old aim now changes between = record { others = λ path not_own. a
     at path (inl same) aims = same
     at path (inr made) aims = made ∙ aims
 
--- what a draft with a pick's own changes came to, over a store that is as it was
+-- what a draft with an invocation's own changes came to, over a store that is as it was
 pub owned_made : (old lent drafted aim now : World) → lent ≡ old → Changes old drafted → Changes drafted aim → IsOnTheWay lent aim now
     → Changes old now
 owned_made old lent drafted aim now same first second way =

@@ -1,5 +1,5 @@
-use Rattle.seq_top.proofs.Judged.{as_pick}
-use Rattle.seq_top.proofs.judging.perform.Goals as goal
+use Rattle.seq_top.proofs.Judged.{as_asked}
+use Rattle.seq_top.proofs.judging.start.Goals as goal
 
 pub returns-in-Some-clause-does : goal.returns-in-Some-clause-does
 returns-in-Some-clause-does g c = record {
@@ -7,5 +7,5 @@ returns-in-Some-clause-does g c = record {
   between = c.now-first.new.self;
   ticks = c.now-first.ensures;
   kind = c.pick.ensures.kind;
-  judged = as_pick g.S.Store.told g.C.Clock.ticked c.args.env.now c.args.command.now _ _ _ _ _ c.in-Some.ensures c.pick.ensures.judged;
+  judged = as_asked g.S.Store.told g.C.Clock.ticked c.args.env.now _ _ _ _ _ _ c.in-Some.ensures c.pick.ensures.judged;
 }

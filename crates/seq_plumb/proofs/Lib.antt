@@ -1,0 +1,4 @@
+pub mod PathWords
+pub mod Indexed
+pub mod Removals
+pub mod Additions

@@ -1,0 +1,6 @@
+use Rattle.std.proofs.Common.{rules}
+use Rattle.seq_model.proofs.Repositories.{keeps_repository}
+use Rattle.seq_plumb.proofs.commands.plumb_drafted.Goals as goal
+
+pub returns-clause-keeps : goal.returns-clause-keeps
+returns-clause-keeps g c told = keeps_repository _ _ (search rules) (g.met.S.Store.shaped _ told)
