@@ -17,6 +17,6 @@ mod writing;
 pub use fault::TodoFault;
 pub use laws::{lines_differ_in_every_text, todo_reads_back};
 pub use line::{Line, MergeHow, PickKind};
-pub use todo::parse_todo;
+pub use todo::{first_line, is_comment, parse_todo};
 pub use todo_kind::TodoKind;
 pub use writing::line_text;

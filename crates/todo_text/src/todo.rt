@@ -25,8 +25,8 @@ fn without_return(line: &[u8]) -> &[u8]
     }
 }
 
-/// The first line of a text, and what stands behind it.
-fn first_line(text: &[u8]) -> (&[u8], &[u8])
+/// The first line of a text that is not empty, without its line end, and what stands behind it.
+pub fn first_line(text: &[u8]) -> (&[u8], &[u8])
     requires { 0 < length text.now }
     ensures first { lines text.now ≡ result.0.now ∷ lines result.1.now }
     ensures shorter { length result.1.now < length text.now }
@@ -37,7 +37,8 @@ fn first_line(text: &[u8]) -> (&[u8], &[u8])
     }
 }
 
-fn is_comment(text: &[u8]) -> bool
+/// Whether a line of a todo is empty, or a comment (git-rebase(1), "INTERACTIVE MODE").
+pub fn is_comment(text: &[u8]) -> bool
     ensures { result ≡ is_comment text.now }
 {
     match from_word(text) {
