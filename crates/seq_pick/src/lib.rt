@@ -9,5 +9,6 @@ mod parent;
 mod picking;
 mod unbuilt;
 
+pub use clean::clean_map;
 pub use committing::Prepared;
 pub use picking::{finish, prepare};
