@@ -23,7 +23,7 @@ use Rattle.state_text.specs.Texts.{text_in}
 use Rattle.state_text.specs.declared.control.Control.{Control}
 use Rattle.reading.specs.Rows.{CountsLines, GivesUp, IsDenied, KeepsFiles, StartIsTold}
 use Rattle.reading.specs.Tapes.{Again, Turn}
-use Rattle.reading.specs.Rows.{MadeByUser, ResolvedToNothing, StagedPast, StartIsRefused, TakesOut, TurnsApart, Unresolved}
+use Rattle.reading.specs.Rows.{MadeByUser, ResolvedToNothing, StagedPast, StartIsRefused, TakesOut, TakesUp, TurnsApart, Unresolved}
 use Rattle.line_steps.specs.Steps.{line_does}
 use Rattle.reading.specs.Stages.{before_line_does, head_does, line_goes, lines_do, look_does}
 use Rattle.line_steps.specs.Writing.{switched_with}
@@ -114,10 +114,13 @@ made_by_user setting w = (refl, refl)
 
 pub resolved_to_nothing : (w : World) → ResolvedToNothing w
 unfolding break_does
-resolved_to_nothing w = (refl, refl, refl)
+resolved_to_nothing w = (refl, refl, refl, refl, refl)
 
 pub takes_out : TakesOut
 takes_out = (refl, refl, refl, refl)
+
+pub takes_up : (setting : Setting) → TakesUp setting
+takes_up setting = (refl, refl, refl)
 
 -- ---- files, a start, an abort
 

@@ -15,7 +15,7 @@ use Rattle.line_steps.specs.declared.place.Place.{Place}
 use Rattle.reading.specs.Readings.{Done, Ending, Reading, Starved, Stopped, Unstarted, ending_of, follow, meaning}
 use Rattle.reading.specs.Readings.{if_all_used, if_no_moment, if_used}
 use Rattle.reading.specs.Readings.{begun_with, first_turn, gone_on, next_turn, resumed, resumes_in, spot_of, started, turned}
-use Rattle.reading.specs.Resuming.{Going}
+use Rattle.reading.specs.Resuming.{Going, taken_up}
 use Rattle.reading.specs.Settings.{setting_at}
 use Rattle.reading.specs.Stages.{Pause}
 use Rattle.reading.specs.Starting.{Start}
@@ -52,6 +52,7 @@ module _ (checks : Checks) where
   gone : (again : Again) (k : Control) (w : World) (coming : Coming) (going : Result Going Denial)
       → IsKept (gone_on again k w coming going).ending
   gone again k w coming (Ok going) =
+      let k = taken_up again going k in
       let step = goes_on again going k (spot_of k w) coming in
       all_used step.coming (ending_of k (Lines going.left) step.end step.spot) (ended k (Lines going.left) step.end step.spot)
   gone again k w coming (Err denial) = tt

@@ -16,7 +16,7 @@ use Rattle.line_steps.specs.Layers.{Made}
 use Rattle.line_steps.specs.declared.setting.Setting.{Setting}
 use Rattle.reading.specs.Opening.{Checks}
 use Rattle.reading.specs.Readings.{gone_on, resumed, resumes_in}
-use Rattle.reading.specs.Resuming.{Going, may_continue, resumes, resumes_at, resumes_with, staged_known}
+use Rattle.reading.specs.Resuming.{Going, may_continue, resumes, resumes_at, resumes_with, staged_known, taken_up}
 use Rattle.reading.specs.Stages.{end_at, end_does, lines_do}
 use Rattle.reading.specs.Standing.{with_left}
 use Rattle.reading.specs.State.{begun}
@@ -57,9 +57,10 @@ module _ (left : Left) (k : Control) where
   unfolding goes_on
   goes-same again going = rw (resume-same again going, lines-same going.setting going.left 0) refl
 
+module _ (left : Left) (k : Control) where
   gone-same : (again : Again) (w : World) (coming : Coming) (going : Result Going Denial)
       → gone_on again (with_left left k) w coming going ≡ gone_on again k w coming going
-  gone-same again w coming (Ok going) = rw (goes-same again going) refl
+  gone-same again w coming (Ok going) = rw (goes-same left (taken_up again going k) again going) refl
   gone-same again w coming (Err denial) = refl
 
   module _ (checks : Checks) where

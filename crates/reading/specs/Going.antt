@@ -152,15 +152,21 @@ resolved_empty empty.Drop emptied commits = gives tt
 resolved_empty empty.Keep emptied commits = commits
 resolved_empty empty.Stop emptied commits = stops emptied
 
+-- a commit of a conflict is one beside HEAD's, and only such a one goes by the option
+abbrev pub resolved_form : Form → Empty → Stop → Doing (Unit {0}) → Doing (Unit {0})
+resolved_form New empty emptied commits = resolved_empty empty emptied commits
+resolved_form Amend empty emptied commits = commits
+resolved_form (Merge other) empty emptied commits = commits
+
 -- where the index's map is HEAD's, a conflict was resolved to nothing, and at an `edit` there is nothing to amend
-abbrev pub if_nothing_staged : StopWord → Empty → Stop → Doing (Unit {0}) → Doing (Unit {0})
-if_nothing_staged stop.Conflict empty emptied commits = resolved_empty empty emptied commits
-if_nothing_staged stop.Edit empty emptied commits = gives tt
-if_nothing_staged _ empty emptied commits = commits
+abbrev pub if_nothing_staged : StopWord → Form → Empty → Stop → Doing (Unit {0}) → Doing (Unit {0})
+if_nothing_staged stop.Conflict form empty emptied commits = resolved_form form empty emptied commits
+if_nothing_staged stop.Edit form empty emptied commits = gives tt
+if_nothing_staged _ form empty emptied commits = commits
 
 abbrev pub unless_nothing_staged : Control → Pending → Found → Doing (Unit {0}) → Doing (Unit {0})
 unless_nothing_staged k pending found commits =
-    if is_same (map_of found.index) found.ours then if_nothing_staged k.stop k.options.empty (stop_empty k pending) commits else commits
+    if is_same (map_of found.index) found.ours then if_nothing_staged k.stop pending.form k.options.empty (stop_empty k pending) commits else commits
 
 unfoldable pub commit_pending : Setting → Control → Pending → Id → Doing (Unit {0})
 commit_pending setting k pending head = do

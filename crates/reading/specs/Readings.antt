@@ -19,7 +19,7 @@ use Rattle.line_steps.specs.declared.setting.Setting.{Setting}
 use Rattle.line_steps.specs.Places.{place_of, with_place}
 use Rattle.line_steps.specs.declared.place.Place.{Place}
 use Rattle.reading.specs.Opening.{Checks}
-use Rattle.reading.specs.Resuming.{Going, resumes}
+use Rattle.reading.specs.Resuming.{Going, resumes, taken_up}
 use Rattle.reading.specs.Settings.{setting_at}
 use Rattle.reading.specs.Stages.{Pause}
 use Rattle.reading.specs.Starting.{Start}
@@ -115,7 +115,7 @@ abbrev pub spot_of : Control → World → Spot Place
 spot_of k w = record { world = w; place = place_of k }
 
 abbrev pub gone_on : Again → Control → World → Coming → Result Going Denial → Reading
-gone_on again k w coming (Ok going) = read_by k (Lines going.left) (goes_on again going k (spot_of k w) coming)
+gone_on again k w coming (Ok going) = let k = taken_up again going k in read_by k (Lines going.left) (goes_on again going k (spot_of k w) coming)
 gone_on again k w coming (Err denial) = starved
 
 -- whether a turn goes on with a stopped list

@@ -1,9 +1,11 @@
 -- Whether a stopped list is gone on with, as it is found (git-rebase(1), "--continue" and "--skip").
-use Rattle.std.specs.Prelude.{ℤ, Bool, true, false, not, ◌||◌, if◌then◌else◌, List, drop, is_none, Option, Some, None, Result, Ok, Err}
+use Rattle.std.specs.Prelude.{ℤ, Bool, true, false, not, ◌||◌, if◌then◌else◌, List, [], ◌++◌, drop, filter, is_none, Option, Some, None, Result, Ok, Err}
+use Rattle.std.specs.List.{list_any}
 use Rattle.std.specs.Str.{bytes_eq}
 use Rattle.index_file.specs.declared.entry.IndexEntry.{IndexEntry}
+use Rattle.message_text.specs.declared.chain.ChainKind.{ChainKind}
 use Rattle.path_trees.specs.Named.{commit_map}
-use Rattle.seq_base.specs.Words.{Id, Path}
+use Rattle.seq_base.specs.Words.{Id, Name, Path}
 use Rattle.seq_base.specs.World.{World}
 use Rattle.seq_model.specs.Basis.{unmerged}
 use Rattle.seq_model.specs.Refusing.{denied_file, or_refuse, refuse_found}
@@ -15,10 +17,12 @@ use Rattle.seq_outside.specs.declared.env.Env.{Env}
 use Rattle.stage_index.specs.Changes.{changed, staged}
 use Rattle.worktree.specs.Resets.{rows_readable}
 use Rattle.todo_text.specs.declared.line.Line.{Line}
+use Rattle.todo_text.specs.declared.line.Line.TheVariants.{UpdateRef}
 use Rattle.state_text.specs.declared.control.Control.{Control}
 use Rattle.state_text.specs.declared.control.Form.TheVariants.{Amend, Merge, New}
 use Rattle.state_text.specs.declared.control.Form.{Form}
 use Rattle.state_text.specs.declared.control.Pending.{Pending}
+use Rattle.state_text.specs.declared.control.RefUpdate.{RefUpdate}
 use Rattle.state_text.specs.declared.stop_word.StopWord.{StopWord}
 use Rattle.state_text.specs.declared.stop_word.StopWord.TheVariants as stop
 use Rattle.line_steps.specs.declared.setting.Setting.{Setting}
@@ -92,6 +96,26 @@ may_go Skip k head index w = if resets_at k.stop then may_reset head w else Ok t
 abbrev pub lines_after : Again → Control → List Line → List Line
 lines_after Continue k lines = lines
 lines_after Skip k lines = if was_put_back k k.stop then drop 1 lines else lines
+
+-- a ref that is to be updated is forgotten where no line names it any more
+abbrev pub updates : Name → Line → Bool
+updates name (UpdateRef other) = bytes_eq other name
+updates name _ = false
+
+abbrev pub updates_named : List Line → List RefUpdate → List RefUpdate
+updates_named lines us = filter (λ (u : RefUpdate). list_any (updates u.name) lines) us
+
+-- no squash chain goes on past a commit that the user made
+abbrev pub chain_kept : Again → Bool → Option Pending → List (ChainKind × Id) → List (ChainKind × Id)
+chain_kept Continue true (Some pending) chain = []
+chain_kept _ _ _ chain = chain
+
+-- the control with which a turn goes on
+abbrev pub taken_up : Again → Going → Control → Control
+taken_up again going k = record k {
+  updates = updates_named (k.done ++ going.left) k.updates;
+  chain = chain_kept again (has_moved k going.head) k.pending k.chain;
+}
 
 -- HEAD is at this commit, and the turn is given this
 unfoldable pub resumes_at : Again → Control → List Line → List IndexEntry → Id → Setting → World → Result Going Denial

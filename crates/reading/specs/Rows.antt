@@ -27,8 +27,11 @@ use Rattle.state_text.specs.States.{state_files}
 use Rattle.state_text.specs.Stops.{said_by}
 use Rattle.state_text.specs.Texts.{id_line}
 use Rattle.state_text.specs.declared.control.Control.{Control}
-use Rattle.state_text.specs.declared.control.Form.TheVariants.{New}
+use Rattle.state_text.specs.declared.control.Form.TheVariants.{Amend, Merge, New}
+use Rattle.state_text.specs.declared.control.Form.{Form}
 use Rattle.state_text.specs.declared.control.Left.TheVariants.{Lines}
+use Rattle.state_text.specs.declared.control.RefUpdate.{RefUpdate}
+use Rattle.message_text.specs.declared.chain.ChainKind.TheVariants.{First}
 use Rattle.state_text.specs.declared.options.Empty.{Empty}
 use Rattle.state_text.specs.declared.options.Empty.TheVariants as empty
 use Rattle.state_text.specs.declared.options.Options.{Options}
@@ -36,7 +39,7 @@ use Rattle.state_text.specs.declared.stop_word.StopWord.{StopWord}
 use Rattle.state_text.specs.declared.stop_word.StopWord.TheVariants as stop
 use Rattle.state_text.specs.declared.verb.Verb.TheVariants.{Rebase}
 use Rattle.todo_text.specs.declared.line.Line.{Line}
-use Rattle.todo_text.specs.declared.line.Line.TheVariants.{Break, Label, Noop}
+use Rattle.todo_text.specs.declared.line.Line.TheVariants.{Break, Label, Noop, UpdateRef}
 use Rattle.todo_text.specs.declared.todo_kind.TodoKind.TheVariants as todo
 use Rattle.reading.specs.Aborting.{head_before, name_before}
 use Rattle.reading.specs.Beginning.{denied, pre_rebase_does}
@@ -57,7 +60,7 @@ use Rattle.line_steps.specs.declared.place.Place.{Place}
 use Rattle.line_steps.specs.declared.stop.Stop.{Stop}
 use Rattle.reading.specs.Opening.{Checks, opened_at}
 use Rattle.reading.specs.Readings.{Denied, kept_after, resumes_in, verdict_of, word_of}
-use Rattle.reading.specs.Resuming.{Going, lines_after, may_continue, staged_refused}
+use Rattle.reading.specs.Resuming.{Going, lines_after, may_continue, staged_refused, taken_up}
 use Rattle.reading.specs.Stages.{lines_do, paired, paused_after, rewritten_does}
 use Rattle.reading.specs.Starting.{Planned, start_line}
 use Rattle.reading.specs.Tapes.{Again, Begins, Child, Continue, Goes as Resumes, Moment, Skip, Turn, calls, nothing}
@@ -101,6 +104,10 @@ spot w = record { world = w; place = place_of control }
 -- how a step ends, of which no event is left
 abbrev pub end_of : World → Doing (Unit {0}) → End Stop (Unit {0})
 end_of w does = (does (spot w) nothing).end
+
+-- a ref that is to be updated
+abbrev pub update_of : Name → RefUpdate
+update_of name = record { name = name; expected = None; new = Some (id_of 33) }
 
 -- one child is to come
 abbrev pub one_child : Ended → Coming
@@ -257,7 +264,7 @@ NothingRewritten w = rewritten_does [] (spot w) nothing ≡ gives tt (spot w) no
 
 -- Of refs at the end one lies below another: nothing is written.
 abbrev pub ends_at : Name → EndRef
-ends_at name = update_ref (record { name = name; expected = None; new = Some (id_of 33) })
+ends_at name = update_ref (update_of name)
 
 abbrev pub BelowAnother : World → Type 0
 BelowAnother w = is_barred w (codes "refs/heads/a") ≡ false
@@ -275,16 +282,21 @@ MadeByUser setting w =
     (staged_refused true (id_of 50) control.pending None ≡ Ok tt)
     × ((continue_does (going_at setting (id_of 50)) control control.pending (spot w) nothing).spot.place.waiting ≡ id_of 34 ∷ [])
 
--- A conflict that is resolved to nothing goes, is made, or stops, as the option says.
+-- A conflict that is resolved to nothing goes, is made, or stops, as the option says; that of a merge or of a commit in HEAD's place is made.
+abbrev pub resolved_as : Form → Empty → Doing (Unit {0})
+resolved_as form empty =
+    if_nothing_staged control.stop form empty (stop_empty control (pending_of false picked)) break_does
+
 abbrev pub resolved : Empty → Doing (Unit {0})
-resolved empty =
-    if_nothing_staged control.stop empty (stop_empty control (pending_of false picked)) break_does
+resolved empty = resolved_as New empty
 
 abbrev pub ResolvedToNothing : World → Type 0
 ResolvedToNothing w =
     (end_of w (resolved empty.Drop) ≡ Goes tt)
     × (end_of w (resolved empty.Keep) ≡ Stops (stop_of kind.Break))
     × (end_of w (resolved empty.Stop) ≡ Stops (stop_with (kind.Empty (id_of 34)) true picked))
+    × (end_of w (resolved_as Amend empty.Drop) ≡ Stops (stop_of kind.Break))
+    × (end_of w (resolved_as (Merge (id_of 50)) empty.Drop) ≡ Stops (stop_of kind.Break))
 
 -- A line that was put back is taken out by skip, and tried again by continue. One that was done is not there any more.
 abbrev pub stopped_by : StopWord → Control
@@ -296,6 +308,20 @@ TakesOut =
     × (lines_after Continue (stopped_by stop.Blocked) noops ≡ noops)
     × (lines_after Skip (stopped_by stop.Break) noops ≡ noops)
     × (lines_after Skip control noops ≡ noops)
+
+-- A ref that no line names any more is forgotten, and no squash chain goes on past a commit that the user made.
+abbrev pub in_chain : Control
+in_chain = record control {
+  done = UpdateRef (codes "refs/heads/a") ∷ [];
+  updates = update_of (codes "refs/heads/a") ∷ update_of (codes "refs/heads/b") ∷ [];
+  chain = (First, id_of 33) ∷ [];
+}
+
+abbrev pub TakesUp : Setting → Type 0
+TakesUp setting =
+    ((taken_up Continue (going_at setting (id_of 33)) in_chain).updates ≡ update_of (codes "refs/heads/a") ∷ [])
+    × ((taken_up Continue (going_at setting (id_of 33)) in_chain).chain ≡ (First, id_of 33) ∷ [])
+    × ((taken_up Continue (going_at setting (id_of 50)) in_chain).chain ≡ [])
 
 -- ---- a start
 

@@ -10,7 +10,7 @@ ghost use Rattle.reading.specs.Rows.{CountsLines, GivesUp, IsDenied, KeepsFiles,
 ghost use Rattle.reading.specs.Tapes.{Again, Turn};
 ghost use Rattle.seq_model.specs.declared.denial.Denial.{Denial};
 ghost use Rattle.state_text.specs.declared.control.Control.{Control};
-ghost use Rattle.reading.specs.Rows.{MadeByUser, ResolvedToNothing, StagedPast, StartIsRefused, TakesOut, TurnsApart, Unresolved};
+ghost use Rattle.reading.specs.Rows.{MadeByUser, ResolvedToNothing, StagedPast, StartIsRefused, TakesOut, TakesUp, TurnsApart, Unresolved};
 
 /// What lines come to, and how they stop.
 pub fn small_lines()
@@ -46,6 +46,7 @@ pub fn small_turns()
     ensures made_by_user { (setting : Setting) → (w : World) → MadeByUser setting w }
     ensures resolved_to_nothing { (w : World) → ResolvedToNothing w }
     ensures takes_out { TakesOut }
+    ensures takes_up { (setting : Setting) → TakesUp setting }
 {}
 
 /// What stands in files, what a start and an abort write, and a turn that is denied.
