@@ -1,0 +1,4 @@
+pub mod Committers
+pub mod Denying
+pub mod Generated
+pub mod Plans
